@@ -1,0 +1,24 @@
+use borrow.Author.Tests.{lt-ltb, le-ltb, eq-eqb, ne-eqb}
+use borrow.Author.Needs.{needs}
+use Rattle.check_model.specs.Tests.{tailOf}
+use Rattle.words.proofs.get.Reads as get-reads
+use Rattle.check_lists.proofs.tail_of.Statement.{statement}
+use Rattle.check_lists.proofs.tail_of.Tie as tie
+use Rattle.check_lists.proofs.tail_of.Reads as reads
+use Rattle.check_lists.proofs.tail_of.Lts as lts
+
+mul-get : tie.Need-mul-get
+mul-get c = search needs
+
+add-get : tie.Need-add-get
+add-get c = search needs
+
+get-requires : tie.Need-get-requires
+get-requires c κs = search needs
+
+returns : tie.Need-returns
+unfolding tailOf
+returns c = search (needs, lt-ltb, le-ltb, eq-eqb, ne-eqb, ← c .get .ensures)
+
+pub tail-of-spec : {M : Type 1} → statement M
+tail-of-spec = tie.close (tie.spec mul-get add-get get-requires returns)

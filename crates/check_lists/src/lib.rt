@@ -1,0 +1,179 @@
+ghost use mathlib.Core.Path.{_≡_};
+ghost use Prim.Native.Nat.{_<_};
+ghost use Rattle.check_model.specs.Tests.{absent, bucketsFrom, chainTest, chainsOk, cursor, endTest, endsOk, firstOf, fld, headOf, lastAt, listTest, listed, noted, tailOf};
+
+fn head_of(d: &[u32], i: u32) -> u32
+    ensures { λ r. ⌜ r ≡ headOf (now (d .entry)) i ⌝ }
+{
+    words::get(d, 22 + 2 * (i as usize))
+}
+
+fn tail_of(d: &[u32], i: u32) -> u32
+    ensures { λ r. ⌜ r ≡ tailOf (now (d .entry)) i ⌝ }
+{
+    words::get(d, 23 + 2 * (i as usize))
+}
+
+// The entry that chain c names behind before.
+fn cursor_of(d: &[u32], at: u32, before: u32, c: u32) -> u32
+    ensures { λ r. ⌜ r ≡ cursor (fld (now (d .entry)) at) (headOf (now (d .entry))) before c ⌝ }
+{
+    if before == 0 {
+        return head_of(d, c);
+    }
+    check_stack::field(d, at, 7, before)
+}
+
+fn chain_test(d: &[u32], at: u32, cmax: u32, e: u32, before: u32) -> bool
+    ensures { λ r. ⌜ r ≡ chainTest (fld (now (d .entry)) at) (headOf (now (d .entry))) cmax e before ⌝ }
+{
+    let count = check_stack::field(d, at, 1, e);
+    if count > cmax {
+        if check_stack::field(d, at, 6, e) == 0 {
+            return check_stack::field(d, at, 7, e) == 0;
+        }
+        return false;
+    }
+    if check_stack::field(d, at, 6, e) == before {
+        return cursor_of(d, at, before, count) == e;
+    }
+    false
+}
+
+fn end_test(d: &[u32], at: u32, i: u32, before: u32) -> bool
+    ensures { λ r. ⌜ r ≡ endTest (fld (now (d .entry)) at) (headOf (now (d .entry))) (tailOf (now (d .entry))) i before ⌝ }
+{
+    if tail_of(d, i) == before {
+        return cursor_of(d, at, before, i) == 0;
+    }
+    false
+}
+
+// The last entry seen of a count.
+fn last_of(last: &[u32; 65], c: u32) -> u32
+    ensures { λ r. ⌜ r ≡ lastAt (now (last .entry)) c ⌝ }
+{
+    if c < 65 {
+        return last[c as usize];
+    }
+    0
+}
+
+fn note(last: &mut [u32; 65], c: u32, e: u32)
+    ensures { λ _. ⌜ now (last .exit) ≡ noted (now (last .entry)) c e ⌝ }
+{
+    if c < 65 {
+        last[c as usize] = e;
+    }
+}
+
+fn ends_ok(d: &[u32], at: u32, cmax: u32, last: &[u32; 65]) -> bool
+    ensures { λ r. ⌜ r ≡ endsOk (fld (now (d .entry)) at) (headOf (now (d .entry))) (tailOf (now (d .entry))) cmax (now (last .entry)) ⌝ }
+{
+    let mut i = 0;
+    while i < cmax {
+        if !end_test(d, at, i + 1, last_of(last, i + 1)) {
+            return false;
+        }
+        i += 1;
+    }
+    true
+}
+
+// The chains list the residents of their counts in stack order.
+pub fn chains_ok(d: &[u32], at: u32, cmax: u32, count: u32, head: u32) -> bool
+    ensures { λ r. ⌜ r ≡ chainsOk (fld (now (d .entry)) at) (headOf (now (d .entry))) (tailOf (now (d .entry))) cmax count head ⌝ }
+{
+    let mut last = [0; 65];
+    let mut e = head;
+    let mut left = count;
+    while left > 0 {
+        let c = check_stack::field(d, at, 1, e);
+        if !chain_test(d, at, cmax, e, last_of(&last, c)) {
+            return false;
+        }
+        note(&mut last, c, e);
+        e = check_stack::field(d, at, 5, e);
+        left -= 1;
+    }
+    ends_ok(d, at, cmax, &last)
+}
+
+// No entry from e on has that block.
+fn absent_from(d: &[u32], at: u32, block: u32, budget: u32, first: u32) -> bool
+    ensures { λ r. ⌜ r ≡ absent (fld (now (d .entry)) at) block budget first ⌝ }
+{
+    let mut e = first;
+    let mut left = budget;
+    while left > 0 {
+        if e == 0 {
+            return true;
+        }
+        if check_stack::field(d, at, 0, e) == block {
+            return false;
+        }
+        e = check_stack::field(d, at, 8, e);
+        left -= 1;
+    }
+    true
+}
+
+// Entry e may stand in bucket b, and no later one has its block.
+fn list_test(d: &[u32], at: u32, n: u32, nb: u32, b: u32, budget: u32, e: u32) -> bool
+    requires { ⌜ 0 < nb ⌝ }
+    ensures { λ r. ⌜ r ≡ listTest (fld (now (d .entry)) at) n nb b budget e ⌝ }
+{
+    if e > n {
+        return false;
+    }
+    if check_stack::field(d, at, 1, e) == 0 {
+        return false;
+    }
+    let block = check_stack::field(d, at, 0, e);
+    if fnv::hash(block) % nb == b {
+        return absent_from(d, at, block, budget, check_stack::field(d, at, 8, e));
+    }
+    false
+}
+
+// What is left of the budget after bucket b, and 1; 0 where its list is wrong.
+fn bucket(d: &[u32], at: u32, n: u32, nb: u32, b: u32, budget: u32, first: u32) -> u32
+    requires { ⌜ (0 < nb) × (budget < 4294967295) ⌝ }
+    ensures { λ r. ⌜ r ≡ listed (fld (now (d .entry)) at) n nb b budget first ⌝ }
+{
+    let mut e = first;
+    let mut left = budget;
+    while left > 0 {
+        if e == 0 {
+            return left + 1;
+        }
+        if !list_test(d, at, n, nb, b, left - 1, e) {
+            return 0;
+        }
+        e = check_stack::field(d, at, 8, e);
+        left -= 1;
+    }
+    if e == 0 {
+        return 1;
+    }
+    0
+}
+
+// The buckets list count entries in all, each in its own.
+pub fn buckets_ok(d: &[u32], at: u32, start: u32, n: u32, nb: u32, count: u32) -> bool
+    requires { ⌜ (0 < nb) × (count < 4294967295) ⌝ }
+    ensures { λ r. ⌜ r ≡ bucketsFrom (fld (now (d .entry)) at) (firstOf (now (d .entry)) start) n nb nb 0 count ⌝ }
+{
+    let mut b = 0;
+    let mut left = count;
+    while b < nb {
+        let first = words::get(d, start as usize + b as usize);
+        let k = bucket(d, at, n, nb, b, left, first);
+        if k == 0 {
+            return false;
+        }
+        left = k - 1;
+        b += 1;
+    }
+    left == 0
+}

@@ -1,0 +1,9 @@
+pub mod Addresses
+pub mod Layout
+pub mod Sound
+pub mod SoundLaws
+pub mod FreshWordLaws
+pub mod FreshKindLaws
+pub mod FreshLaws
+pub mod FreshAtLaws
+pub mod Examples

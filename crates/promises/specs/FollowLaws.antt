@@ -1,0 +1,164 @@
+-- Demand 3 from the promises: each batch, from a sound directory, does what the plain stack does.
+use Prim.Native.Nat.{ℕ, zero, suc, _+_, _*_, _/_, _^_, _≤_}
+use native.Mathlib.Omega.{arith}
+use mathlib.Core.Path.{_≡_, refl, sym, ap, ap₂, subst, subst₂, _∙_}
+use mathlib.Core.Bool.{Bool, true, false, _&&_, not}
+use mathlib.Core.List.{List, [], _∷_, _++_, map}
+use lib.ListN.{length, take, drop, take-append-drop}
+use lib.Seq.{length-take-le, take-take, take-append-le, drop-append-le}
+use lib.Dec.{T, eqb, eqb-refl}
+use Rattle.basics.specs.Basics.{All, bit}
+use Rattle.words.specs.LinkLaws.{changed-same}
+use Rattle.settings.specs.declared.Settings.{Settings}
+use Rattle.stack.specs.Stack.{Plain, Work, answerWord}
+use Rattle.stack.specs.Batch.{Ran, nothing, work, batchNumber, AllReported, batch}
+use Rattle.stack.specs.Entries.{Cache, plain, entryRun}
+use Rattle.stack.specs.RunLaws.{plainRan}
+use Rattle.stack.specs.BatchLaws.{Room, room, batch-declined}
+use Rattle.layout.specs.Sound.{settingsIn, totalsIn, sound, view}
+use Rattle.promises.specs.Promises.{over, Fresh, Slices, cacheIn, behind, callOf, numberOf, halved, Accepted, Batch}
+use Rattle.promises.specs.SliceLaws.{number-sound, accepted-same, accepted-reported, after-settings, after-bytes, after-store}
+use Rattle.promises.specs.Demand3.{Memory, Lending, lends, leaves, Linked, end, call, asCall, starts, Alike, Agrees, Follows, Demand3, LinkBound}
+
+T→true : (b : Bool) → T b → b ≡ true
+T→true true t = refl
+T→true false t = absurd t
+
+abbrev see : Memory → Cache
+see m = cacheIn (m .directory) (m .bytes) (m .store)
+
+-- ---- slices beside the memory that they are lent from
+
+module _ (m : Memory) (c : Lending) (fits : c .bytesLength ≤ length (m .bytes)) (fits′ : c .storeLength ≤ length (m .store)) (h : T (sound (m .directory))) where
+  abbrev s : Settings
+  s = settingsIn (m .directory)
+
+  abbrev k : Plain
+  k = plain (see m)
+
+  given : callOf (c .words) (c .incoming) (lends m c) ≡ asCall c
+  given = rw (length-take-le, length-take-le)
+
+  -- what was lent and came back unchanged
+  leaves-same : leaves m c (lends m c) ≡ m
+  leaves-same = rw (take-append-drop, take-append-drop)
+
+  number-agrees : {n : ℕ} {after : Slices} → Batch (c .words) (c .incoming) (lends m c) n after → n ≡ batchNumber s (totalsIn (m .directory)) (asCall c)
+  number-agrees promise = promise .returned ∙ number-sound (c .words) (c .incoming) (lends m c) h ∙ ap (batchNumber s (totalsIn (m .directory))) given
+
+  -- what a call leaves behind beside the plain stack
+  abbrev Goes : ℕ → Slices → Type 0
+  Goes n after =
+      Agrees c n after k (batch k (asCall c))
+      × Alike (leaves m c after) (batch k (asCall c) .ran .after) (drop (s .m * s .b) (m .store))
+
+  declined : (n : ℕ) → suc n ≡ batchNumber s (totalsIn (m .directory)) (asCall c) → Goes (suc n) (lends m c)
+  unfolding batch view
+  declined n e =
+      let r : batch k (asCall c) .ran ≡ nothing k = batch-declined k (asCall c) n (sym e) in (
+        record { number = e; answers = rw r; outgoing = rw r; chains = λ z. absurd (omega arith) },
+        rw (leaves-same, r) (record { is-sound = h; same = refl; past = refl }),
+      )
+
+  module _ (e : batchNumber s (totalsIn (m .directory)) (callOf (c .words) (c .incoming) (lends m c)) ≡ 0) where
+    rooms : Room s (callOf (c .words) (c .incoming) (lends m c))
+    rooms = room s (totalsIn (m .directory)) (callOf (c .words) (c .incoming) (lends m c)) e
+
+    -- with room for N and M blocks, the lent part shows what the memory shows
+    behind-lent : behind (lends m c) ≡ see m
+    unfolding view
+    behind-lent =
+        let g : s .n * s .b ≤ c .bytesLength = omega (arith, rooms .bytes, length-take-le (c .bytesLength) (m .bytes) fits) in
+        let g′ : s .m * s .b ≤ c .storeLength = omega (arith, rooms .store, length-take-le (c .storeLength) (m .store) fits′) in
+        rw (take-take (s .n * s .b) (c .bytesLength), take-take (s .m * s .b) (c .storeLength))
+
+    module _ (after : Slices) (picked : List (Work × ℕ)) (acc : Accepted (c .words) (c .incoming) (lends m c) after picked) where
+      abbrev t : Slices
+      t = lends m c
+
+      abbrev R : Ran Cache
+      R = entryRun (behind t) picked (c .incoming)
+
+      same-ran : batch k (asCall c) .ran ≡ plainRan R
+      same-ran = ap₂ (λ x y. batch (plain x) y .ran) (sym behind-lent) (sym given) ∙ accepted-same (c .words) (c .incoming) t h e after picked acc
+
+      see-after : see (leaves m c after) ≡ behind after
+      unfolding view
+      see-after =
+          let g = after-bytes (c .words) (c .incoming) t h e after picked acc in
+          let g′ = after-store (c .words) (c .incoming) t h e after picked acc in
+          rw (take-append-le, take-append-le)
+
+      same-settings : settingsIn (after .directory) ≡ s
+      same-settings = after-settings (c .words) (c .incoming) t h e after picked acc
+
+      store-past : drop (s .m * s .b) (leaves m c after .store) ≡ drop (s .m * s .b) (m .store)
+      store-past =
+          let g : s .m * s .b ≤ length (after .store) = subst (λ x. x .m * x .b ≤ length (after .store)) same-settings (after-store (c .words) (c .incoming) t h e after picked acc) in
+          let g′ = rooms .store in
+          drop-append-le (s .m * s .b) (after .store) (drop (c .storeLength) (m .store)) g
+          ∙ ap (λ x. x ++ drop (c .storeLength) (m .store)) (acc .store-past)
+          ∙ sym (drop-append-le (s .m * s .b) (take (c .storeLength) (m .store)) (drop (c .storeLength) (m .store)) g′)
+          ∙ ap (drop (s .m * s .b)) (take-append-drop (c .storeLength) (m .store))
+
+      after-same : plain (see (leaves m c after)) ≡ batch k (asCall c) .ran .after
+      unfolding plainRan
+      after-same = ap plain (see-after ∙ acc .cache) ∙ sym (ap (λ r. r .after) same-ran)
+
+      same-answers : after .answers ≡ over (map answerWord (batch k (asCall c) .ran .answers)) (c .answers)
+      unfolding plainRan
+      same-answers = acc .answers ∙ ap (λ r. over (map answerWord (r .answers)) (c .answers)) (sym same-ran)
+
+      accepted : Goes 0 after
+      unfolding batch view plainRan
+      accepted = (
+        record {
+          number = sym e ∙ ap (batchNumber s (totalsIn (m .directory))) given;
+          answers = same-answers;
+          outgoing = acc .outgoing ∙ ap (λ r. over (r .outgoing) (c .outgoing)) (sym same-ran);
+          chains = λ z. subst (AllReported (s .b) k (map (work s) (c .words)) (c .incoming)) (sym same-answers)
+              (subst₂ (λ x y. AllReported (s .b) (plain x) (map (work s) (c .words)) (c .incoming) (over (map answerWord (batch (plain x) y .ran .answers)) (c .answers))) behind-lent given
+              (accepted-reported (c .words) (c .incoming) t h e after picked acc _));
+        },
+        record {
+          is-sound = acc .sound-after;
+          same = after-same;
+          past = subst (λ x. drop (x .settings .m * x .settings .b) (leaves m c after .store) ≡ drop (s .m * s .b) (m .store)) after-same (subst (λ (x : Settings). drop (x .m * x .b) (leaves m c after .store) ≡ drop (s .m * s .b) (m .store)) (sym same-settings) store-past);
+        },
+      )
+
+  goes : (n : ℕ) (after : Slices) → Batch (c .words) (c .incoming) (lends m c) n after → Goes n after
+  goes zero after promise =
+      let e : 0 ≡ batchNumber s (totalsIn (m .directory)) (asCall c) = number-agrees promise in
+      let (picked, acc) = promise .accepted refl in
+      accepted (ap (batchNumber s (totalsIn (m .directory))) given ∙ sym e) after picked acc
+  goes (suc n) after promise = subst (Goes (suc n)) (sym (promise .declined (omega arith))) (declined n (number-agrees promise))
+
+-- ---- the list
+
+follow : {m : Memory} {cs : List Lending} {ts : List (ℕ × Slices)} (k : Plain) (rest : List ℕ) → Alike m k rest → Linked m cs ts → Follows rest m k cs ts
+unfolding view
+follow k rest alike end = end alike
+follow k rest alike (call {m = m} {c = c} {n = n} {after = after} fits fits′ promise next) =
+    let now : Agrees c n after k (batch k (asCall c)) × Alike (leaves m c after) (batch k (asCall c) .ran .after) rest =
+    subst (λ r. Agrees c n after k (batch k (asCall c)) × Alike (leaves m c after) (batch k (asCall c) .ran .after) r) (alike .past)
+    (subst (λ x. Agrees c n after x (batch x (asCall c)) × Alike (leaves m c after) (batch x (asCall c) .ran .after) (drop (x .settings .m * x .settings .b) (m .store))) (alike .same)
+    (goes m c fits fits′ (alike .is-sound) n after promise)) in
+    call alike (now .0) (follow (batch k (asCall c) .ran .after) rest (now .1) next)
+
+-- Demand 3, once fresh words are shown sound and empty.
+pub demand3-from : ((s : Settings) (before directory bytes store : List ℕ) → Fresh s before 0 directory
+    → Alike (record { directory = directory; bytes = bytes; store = store }) (starts s store) (drop (s .m * s .b) store)) → Demand3
+demand3-from begins s before directory bytes store cs ts fresh linked = follow (starts s store) (drop (s .m * s .b) store) (begins s before directory bytes store fresh) linked
+
+-- ---- the link bound
+
+pub link-bound : LinkBound
+unfolding numberOf plainRan
+link-bound w incoming before zero after h promise kind calm =
+    let (picked, acc) = promise .accepted refl in
+    let e : batchNumber (settingsIn (before .directory)) (totalsIn (before .directory)) (callOf (w ∷ []) incoming before) ≡ 0 = sym (promise .returned ∙ number-sound (w ∷ []) incoming before h) in
+    acc .links w refl kind (subst (λ r. All (λ a. T (not (halved a))) (r .answers)) (accepted-same (w ∷ []) incoming before h e after picked acc) calm)
+link-bound w incoming before (suc n) after h promise kind calm =
+    let same = promise .declined (omega arith) in
+    rw (same, changed-same (before .directory)) (omega arith)

@@ -1,0 +1,4 @@
+pub mod Words
+pub mod Links
+pub mod WordLaws
+pub mod LinkLaws

@@ -1,0 +1,63 @@
+//! Tests of the verified block cache, beside another implementation.
+//!
+//! This file wraps the functions that `crates/ffi` exports; a slice passes as a pointer, then an element count.
+//! [`reference`] is written in plain Rust from the scope alone and shares nothing with the library. The tests run
+//! both over the same inputs and compare every number, word and verdict.
+pub mod reference;
+
+mod ffi {
+    extern "C" {
+        pub fn fbr_fresh(
+            n: u32, nnew: u32, nold: u32, cmax: u32, amax: u32, b: u32, m: u32, dir: *mut u32, len: usize,
+        ) -> u32;
+        pub fn fbr_sound(dir: *const u32, len: usize) -> u32;
+        pub fn fbr_hash(block: u32) -> u32;
+        pub fn fbr_buckets(n: u32) -> u32;
+    }
+}
+
+/// The settings of a cache. They need not be legal: the tests lend wrong ones too.
+#[derive(Clone, Copy, Debug, PartialEq, Eq)]
+pub struct Settings {
+    /// Cache blocks.
+    pub n: u32,
+    /// Cache blocks of the new section.
+    pub nnew: u32,
+    /// Cache blocks of the old section.
+    pub nold: u32,
+    /// Chain limit.
+    pub cmax: u32,
+    /// Average limit.
+    pub amax: u32,
+    /// Block size in bytes.
+    pub b: u32,
+    /// Blocks of the store.
+    pub m: u32,
+}
+
+/// The settings of the examples and of the program.
+pub const BELT: Settings = Settings { n: 4, nnew: 1, nold: 2, cmax: 3, amax: 100, b: 8, m: 64 };
+
+/// Writes a fresh directory over `dir`, or returns 1 to 5.
+pub fn fresh(s: Settings, dir: &mut [u32]) -> u32 {
+    unsafe { ffi::fbr_fresh(s.n, s.nnew, s.nold, s.cmax, s.amax, s.b, s.m, dir.as_mut_ptr(), dir.len()) }
+}
+
+/// Whether the directory is sound.
+pub fn sound(dir: &[u32]) -> bool {
+    match unsafe { ffi::fbr_sound(dir.as_ptr(), dir.len()) } {
+        0 => false,
+        1 => true,
+        other => panic!("fbr_sound returned {other}"),
+    }
+}
+
+/// FNV-1a of a block number's four bytes, low byte first.
+pub fn hash(block: u32) -> u32 {
+    unsafe { ffi::fbr_hash(block) }
+}
+
+/// The bucket count for `n` cache blocks; 0 for an `n` outside its limits.
+pub fn buckets(n: u32) -> u32 {
+    unsafe { ffi::fbr_buckets(n) }
+}

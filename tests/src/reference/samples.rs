@@ -1,0 +1,130 @@
+//! Random settings and sound directories with corners drawn often.
+use super::builder::{home, Arrangement, Plan, Resident, Totals};
+use super::rng::Rng;
+use super::settings::{sum_limit, MAX_AMAX, MAX_B, MAX_CMAX, MAX_M};
+use crate::Settings;
+
+/// Legal settings for `n` cache blocks.
+pub fn settings(rng: &mut Rng, n: u32) -> Settings {
+    let (nnew, nold) = match rng.below(6) {
+        // no new section; all old; no middle section; all but one new; as free as the limits
+        0 => (0, rng.within(1, n)),
+        1 => (0, n),
+        2 => {
+            let nold = rng.within(1, n);
+            (n - nold, nold)
+        }
+        3 => (n - 1, 1),
+        _ => {
+            let nold = rng.within(1, n);
+            (rng.within(0, n - nold), nold)
+        }
+    };
+    let cmax = match rng.below(4) {
+        0 => 1,
+        1 => MAX_CMAX,
+        2 => rng.within(1, MAX_CMAX),
+        _ => rng.within(2, 5),
+    };
+    let amax = match rng.below(4) {
+        0 => rng.within(1, 3),
+        1 => MAX_AMAX,
+        _ => rng.within(1, MAX_AMAX),
+    };
+    let m = match rng.below(4) {
+        0 => rng.within(1, MAX_M),
+        1 => n,
+        2 => rng.within(n, 2 * n),
+        _ => MAX_M,
+    };
+    let b = if rng.one_in(4) { MAX_B } else { rng.within(1, MAX_B) };
+    Settings { n, nnew, nold, cmax, amax, b, m }
+}
+
+/// A sound directory with these settings.
+pub fn plan(rng: &mut Rng, s: Settings) -> Plan {
+    let most = s.n.min(s.m);
+    let r = match rng.below(4) {
+        0 => rng.within(0, most),
+        1 => rng.within(0, most.min(3)),
+        _ => most,
+    };
+    plan_of(rng, s, r)
+}
+
+/// A sound directory with `r` residents, which N and M must have room for.
+pub fn plan_of(rng: &mut Rng, s: Settings, r: u32) -> Plan {
+    let mut residents: Vec<Resident> = blocks(rng, s, r)
+        .into_iter()
+        .map(|block| Resident { block, count: 1, modified: rng.below(2) as u32 })
+        .collect();
+    raise_counts(rng, s, &mut residents);
+    let modified = residents.iter().filter(|resident| resident.modified == 1).count() as u64;
+    Plan { settings: s, totals: totals(rng, modified), arrangement: arrangement(rng, s.n, r), residents }
+}
+
+/// Different blocks; now and then most of them in one bucket.
+fn blocks(rng: &mut Rng, s: Settings, r: u32) -> Vec<u32> {
+    let mut blocks: Vec<u32> = Vec::new();
+    let crowded = s.n <= 64 && s.m == MAX_M && rng.one_in(3);
+    let mut taken = vec![false; s.m as usize];
+    while (blocks.len() as u32) < r {
+        let mut block = rng.within(0, s.m - 1);
+        while taken[block as usize] || crowded && home(s, block) != 0 {
+            block = (block + 1) % s.m;
+        }
+        taken[block as usize] = true;
+        blocks.push(block);
+    }
+    blocks
+}
+
+/// Spends some or all of what the sum may rise by.
+fn raise_counts(rng: &mut Rng, s: Settings, residents: &mut [Resident]) {
+    let mut budget = sum_limit(s) - residents.len() as u64;
+    let mut order: Vec<usize> = (0..residents.len()).collect();
+    rng.shuffle(&mut order);
+    let manner = rng.below(4);
+    for &position in &order {
+        let most = budget.min(65_534);
+        let raise = match manner {
+            // around the chain limit
+            0 => rng.below(u64::from(s.cmax) + 3),
+            1 => rng.below(3),
+            // as much as there is: counts of 65,535 and sums at the limit
+            2 => most,
+            _ => rng.below(most + 1),
+        };
+        residents[position].count += raise.min(most) as u32;
+        budget -= raise.min(most);
+    }
+    // up to the limit exactly, for the manners that leave something
+    if rng.one_in(3) {
+        for &position in &order {
+            let raise = budget.min(u64::from(65_535 - residents[position].count));
+            residents[position].count += raise as u32;
+            budget -= raise;
+        }
+    }
+}
+
+/// Totals that this many modified residents allow: small, huge, and at their limits.
+fn totals(rng: &mut Rng, modified: u64) -> Totals {
+    let end = if rng.one_in(2) { 1 << 10 } else { 1 << 56 };
+    let reads = rng.below(end);
+    let writes = modified + rng.below(end - modified.min(end - 1));
+    let most_outs = writes - modified;
+    let ins = if rng.one_in(2) { reads } else { rng.below(reads + 1) };
+    let outs = if rng.one_in(2) { most_outs } else { rng.below(most_outs + 1) };
+    Totals { reads, writes, ins, outs }
+}
+
+/// Entry numbers, unused list and synonym order at random.
+pub fn arrangement(rng: &mut Rng, n: u32, r: u32) -> Arrangement {
+    let mut entries: Vec<u32> = (1..=n).collect();
+    rng.shuffle(&mut entries);
+    let unused = entries.split_off(r as usize);
+    let mut synonyms: Vec<usize> = (0..r as usize).collect();
+    rng.shuffle(&mut synonyms);
+    Arrangement { entries, unused, synonyms }
+}
