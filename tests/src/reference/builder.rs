@@ -101,7 +101,7 @@ impl Plan {
         }
         let entry_at = |position: usize| self.arrangement.entries.get(position).copied().unwrap_or(0);
         words[header::AT_NNEW] = link(entry_at(s.nnew as usize));
-        words[header::FIRST_OLD] = link(entry_at((s.n - s.nold) as usize));
+        words[header::FIRST_OLD] = link(entry_at(s.n.saturating_sub(s.nold) as usize));
         let t = self.totals;
         let addresses = [header::READS_LOW, header::WRITES_LOW, header::INS_LOW, header::OUTS_LOW];
         for (low, total) in addresses.into_iter().zip([t.reads, t.writes, t.ins, t.outs]) {

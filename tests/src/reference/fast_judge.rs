@@ -5,7 +5,7 @@ use super::directory::{settings_of, Map};
 use super::{fnv, settings};
 use crate::Settings;
 
-const LONGEST_CHAINS: usize = settings::MAX_CMAX as usize + 1;
+const CHAIN_SLOTS: usize = settings::MAX_CMAX as usize + 1;
 
 pub fn sound(words: &[u32]) -> bool {
     if words.len() < header::LENGTH {
@@ -68,7 +68,7 @@ impl<'a> Check<'a> {
         if r > self.s.n {
             return false;
         }
-        let mut chain_tails = [0u32; LONGEST_CHAINS];
+        let mut chain_tails = [0u32; CHAIN_SLOTS];
         let (mut sum, mut modified) = (0u64, 0u64);
         let (mut at_nnew, mut at_first_old) = (0, 0);
         let (mut before, mut e) = (0, self.at(header::HEAD));
@@ -111,7 +111,7 @@ impl<'a> Check<'a> {
     }
 
     /// Whether the resident follows the last one seen of its count, in links both ways.
-    fn chained(&self, e: u32, resident: &[u32; entry::LENGTH], tails: &mut [u32; LONGEST_CHAINS]) -> bool {
+    fn chained(&self, e: u32, resident: &[u32; entry::LENGTH], tails: &mut [u32; CHAIN_SLOTS]) -> bool {
         let count = resident[entry::COUNT];
         if count > self.s.cmax {
             return resident[entry::CHAIN_TOWARDS_HEAD] == 0 && resident[entry::CHAIN_TOWARDS_TAIL] == 0;
@@ -124,7 +124,7 @@ impl<'a> Check<'a> {
         resident[entry::CHAIN_TOWARDS_HEAD] == last && next_of_last == e
     }
 
-    fn chains_end(&self, tails: &[u32; LONGEST_CHAINS]) -> bool {
+    fn chains_end(&self, tails: &[u32; CHAIN_SLOTS]) -> bool {
         (1..=self.s.cmax).all(|count| {
             let last = tails[count as usize];
             let next_of_last = match last {

@@ -1,0 +1,267 @@
+//! The plain stack: residents with their bytes in recency order, the store, the totals, and batches of work words.
+use crate::Settings;
+
+#[cfg(test)]
+mod tests;
+
+/// Kinds of work words.
+pub mod work {
+    pub const READ: u32 = 1;
+    pub const WRITE: u32 = 2;
+    pub const PURGE: u32 = 3;
+    pub const FLUSH: u32 = 4;
+    pub const MOST_WORDS: usize = 1_024;
+}
+
+/// Kinds of answer words, and what their values add up.
+pub mod answer {
+    pub const HIT: u32 = 1;
+    pub const ENTERED: u32 = 2;
+    pub const REPLACED: u32 = 3;
+    pub const PURGED: u32 = 4;
+    pub const ABSENT: u32 = 5;
+    pub const FLUSHED: u32 = 6;
+    /// Of a hit or an entered block: counts were halved.
+    pub const HALVED: u32 = 1 << 26;
+    /// Of a replaced block: one chain looked at.
+    pub const CHAIN: u32 = 1 << 18;
+    /// Of a replaced block: the victim was written out.
+    pub const WRITTEN_OUT: u32 = 1 << 25;
+}
+
+pub const MOST_COUNT: u32 = 65_535;
+/// Reads, writes and batch length together stay at most this.
+pub const MOST_TOTAL: u64 = (1 << 56) - 1;
+
+/// A work or answer word.
+pub fn word(kind: u32, value: u32) -> u32 {
+    kind << 28 | value
+}
+fn kind(word: u32) -> u32 {
+    word >> 28
+}
+fn value(word: u32) -> u32 {
+    word & ((1 << 28) - 1)
+}
+
+#[derive(Clone, Debug, PartialEq, Eq)]
+pub struct Resident {
+    pub block: u32,
+    pub count: u32,
+    pub modified: bool,
+    pub bytes: Vec<u8>,
+}
+
+#[derive(Clone, Debug, PartialEq, Eq)]
+pub struct PlainStack {
+    pub settings: Settings,
+    /// Most recent first.
+    pub residents: Vec<Resident>,
+    /// The starting store, whole; its first M × B bytes are the blocks.
+    pub store: Vec<u8>,
+    pub reads: u64,
+    pub writes: u64,
+    pub ins: u64,
+    pub outs: u64,
+}
+
+/// How many bytes of data and store a batch is lent.
+#[derive(Clone, Copy, Debug, PartialEq, Eq)]
+pub struct Lent {
+    pub data: usize,
+    pub store: usize,
+}
+
+impl PlainStack {
+    pub fn new(settings: Settings, store: Vec<u8>) -> PlainStack {
+        PlainStack { settings, residents: Vec::new(), store, reads: 0, writes: 0, ins: 0, outs: 0 }
+    }
+
+    /// What a batch needs at least.
+    pub fn whole(&self) -> Lent {
+        let s = self.settings;
+        Lent { data: s.n as usize * s.b as usize, store: s.m as usize * s.b as usize }
+    }
+
+    /// Runs a batch and returns 0, or changes nothing and returns 7 to 11.
+    pub fn batch(
+        &mut self, lent: Lent, work: &[u32], incoming: &[u8], answers: &mut [u32], outgoing: &mut [u8],
+    ) -> u32 {
+        let refusal = self.refusal(lent, work, incoming.len(), answers.len(), outgoing.len());
+        if refusal != 0 {
+            return refusal;
+        }
+        let b = self.settings.b as usize;
+        let mut incoming = incoming.chunks_exact(b);
+        let mut outgoing = outgoing.chunks_exact_mut(b);
+        for (answer, &w) in answers.iter_mut().zip(work) {
+            let block = value(w);
+            *answer = match kind(w) {
+                work::READ => self.read(block, outgoing.next().unwrap()),
+                work::WRITE => self.write(block, incoming.next().unwrap()),
+                work::PURGE => self.purge(block),
+                _ => self.flush(),
+            };
+        }
+        0
+    }
+
+    /// The first number of the table, from 7 to 11, whose condition is met; else 0.
+    fn refusal(&self, lent: Lent, work: &[u32], incoming: usize, answers: usize, outgoing: usize) -> u32 {
+        let of_kind = |k: u32| work.iter().filter(|&&w| kind(w) == k).count();
+        let b = self.settings.b as usize;
+        let whole = self.whole();
+        if lent.data < whole.data || lent.store < whole.store {
+            7
+        } else if work.len() > work::MOST_WORDS {
+            8
+        } else if !work.iter().all(|&w| self.well_formed(w)) {
+            9
+        } else if answers < work.len() || incoming < of_kind(work::WRITE) * b || outgoing < of_kind(work::READ) * b {
+            10
+        } else if self.reads + self.writes + work.len() as u64 > MOST_TOTAL {
+            11
+        } else {
+            0
+        }
+    }
+
+    fn well_formed(&self, w: u32) -> bool {
+        match kind(w) {
+            work::READ | work::WRITE | work::PURGE => value(w) < self.settings.m,
+            work::FLUSH => value(w) == 0,
+            _ => false,
+        }
+    }
+
+    fn read(&mut self, block: u32, out: &mut [u8]) -> u32 {
+        self.reads += 1;
+        let answer = match self.position(block) {
+            Some(p) => self.hit(p),
+            None => {
+                // what a victim is written out to is in the store before the block comes in
+                let answer = self.make_room();
+                self.ins += 1;
+                let bytes = self.store[self.place(block)].to_vec();
+                self.enter(block, bytes);
+                answer
+            }
+        };
+        out.copy_from_slice(&self.residents[0].bytes);
+        self.halved_after(answer)
+    }
+
+    fn write(&mut self, block: u32, bytes: &[u8]) -> u32 {
+        self.writes += 1;
+        let answer = match self.position(block) {
+            Some(p) => self.hit(p),
+            None => {
+                let answer = self.make_room();
+                self.enter(block, Vec::new());
+                answer
+            }
+        };
+        self.residents[0].bytes = bytes.to_vec();
+        self.residents[0].modified = true;
+        self.halved_after(answer)
+    }
+
+    fn purge(&mut self, block: u32) -> u32 {
+        match self.position(block) {
+            Some(p) => word(answer::PURGED, u32::from(self.residents.remove(p).modified)),
+            None => word(answer::ABSENT, 0),
+        }
+    }
+
+    fn flush(&mut self) -> u32 {
+        let mut written = 0;
+        for p in 0..self.residents.len() {
+            if self.residents[p].modified {
+                self.write_out(p);
+                self.residents[p].modified = false;
+                written += 1;
+            }
+        }
+        word(answer::FLUSHED, written)
+    }
+
+    fn position(&self, block: u32) -> Option<usize> {
+        self.residents.iter().position(|resident| resident.block == block)
+    }
+
+    fn hit(&mut self, position: usize) -> u32 {
+        let mut resident = self.residents.remove(position);
+        if position >= self.settings.nnew as usize && resident.count < MOST_COUNT {
+            resident.count += 1;
+        }
+        let answer = word(answer::HIT, resident.count);
+        self.residents.insert(0, resident);
+        answer
+    }
+
+    fn enter(&mut self, block: u32, bytes: Vec<u8>) {
+        self.residents.insert(0, Resident { block, count: 1, modified: false, bytes });
+    }
+
+    /// The answer of a block that is about to enter; with N residents, one leaves.
+    fn make_room(&mut self) -> u32 {
+        if self.residents.len() < self.settings.n as usize {
+            return word(answer::ENTERED, 0);
+        }
+        let chains = self.chains_looked_at();
+        let position = self.victim();
+        let written_out = self.residents[position].modified;
+        if written_out {
+            self.write_out(position);
+        }
+        let victim = self.residents.remove(position);
+        let mark = if written_out { answer::WRITTEN_OUT } else { 0 };
+        word(answer::REPLACED, victim.block + answer::CHAIN * chains + mark)
+    }
+
+    fn first_old(&self) -> usize {
+        (self.settings.n - self.settings.nold) as usize
+    }
+
+    /// The victim's position among N residents.
+    fn victim(&self) -> usize {
+        let last = self.residents.len() - 1;
+        let old = self.first_old()..=last;
+        let smallest = old.clone().map(|p| self.residents[p].count).min().unwrap();
+        if smallest > self.settings.cmax {
+            return last;
+        }
+        old.rev().find(|&p| self.residents[p].count == smallest).unwrap()
+    }
+
+    /// From the chain of count 1 to the first with an old resident, or all Cmax.
+    fn chains_looked_at(&self) -> u32 {
+        let has_old = |count: u32| self.residents[self.first_old()..].iter().any(|old| old.count == count);
+        (1..=self.settings.cmax).find(|&count| has_old(count)).unwrap_or(self.settings.cmax)
+    }
+
+    /// The answer, after counts were halved if their sum exceeds Amax × N. A replaced block's answer has no mark: the
+    /// sum did not rise.
+    fn halved_after(&mut self, answer: u32) -> u32 {
+        let sum: u64 = self.residents.iter().map(|resident| u64::from(resident.count)).sum();
+        if sum <= u64::from(self.settings.amax) * u64::from(self.settings.n) {
+            return answer;
+        }
+        for resident in &mut self.residents {
+            resident.count = resident.count.div_ceil(2);
+        }
+        assert_ne!(kind(answer), answer::REPLACED, "a replacement never raises the sum");
+        answer + answer::HALVED
+    }
+
+    fn write_out(&mut self, position: usize) {
+        let place = self.place(self.residents[position].block);
+        self.store[place].copy_from_slice(&self.residents[position].bytes);
+        self.outs += 1;
+    }
+
+    fn place(&self, block: u32) -> std::ops::Range<usize> {
+        let b = self.settings.b as usize;
+        block as usize * b..(block as usize + 1) * b
+    }
+}

@@ -1,0 +1,161 @@
+//! The examples of the scope, those with a letter and the others.
+use super::*;
+use crate::BELT;
+
+const ONE: Settings = Settings { n: 1, nnew: 0, nold: 1, cmax: 1, amax: 10, b: 8, m: 64 };
+
+fn start(settings: Settings) -> PlainStack {
+    // every block's bytes differ
+    let store = (0..settings.m * settings.b).map(|i| (i / settings.b + 100 * (i % settings.b)) as u8).collect();
+    PlainStack::new(settings, store)
+}
+fn reads(blocks: &[u32]) -> Vec<u32> {
+    blocks.iter().map(|&block| word(work::READ, block)).collect()
+}
+/// Runs an accepted batch whose j-th write is all bytes j, and gives answers and outgoing bytes.
+fn run(stack: &mut PlainStack, work: &[u32]) -> (Vec<u32>, Vec<u8>) {
+    let b = stack.settings.b as usize;
+    let incoming: Vec<u8> = (0..work.len() * b).map(|i| (i / b + 1) as u8).collect();
+    let (mut answers, mut outgoing) = (vec![0; work.len()], vec![0; work.len() * b]);
+    let lent = stack.whole();
+    assert_eq!(stack.batch(lent, work, &incoming, &mut answers, &mut outgoing), 0);
+    (answers, outgoing)
+}
+fn blocks(stack: &PlainStack) -> Vec<u32> {
+    stack.residents.iter().map(|resident| resident.block).collect()
+}
+fn counts(stack: &PlainStack) -> Vec<u32> {
+    stack.residents.iter().map(|resident| resident.count).collect()
+}
+
+#[test]
+fn a_and_b() {
+    let mut belt = start(BELT);
+    let (answers, outgoing) = run(&mut belt, &reads(&[10, 11, 12, 13, 10, 10, 14]));
+    let entered = word(2, 0);
+    assert_eq!(answers, [entered, entered, entered, entered, word(1, 2), word(1, 2), word(3, 262_155)]);
+    assert_eq!(outgoing[..8], belt.store[80..88]);
+    assert_eq!(outgoing[48..56], belt.store[112..120]);
+    assert_eq!((belt.reads, belt.writes, belt.ins, belt.outs), (7, 0, 5, 0));
+    // the victims of the next reads; block 10 stands at position 3 when 14 leaves
+    let mut victims = Vec::new();
+    for block in [15, 16, 17, 18] {
+        if block == 17 {
+            assert_eq!((belt.residents[3].block, belt.residents[3].count), (10, 2));
+        }
+        let (answers, _) = run(&mut belt, &reads(&[block]));
+        assert_eq!(kind(answers[0]), answer::REPLACED);
+        victims.push(value(answers[0]) % answer::CHAIN);
+    }
+    assert_eq!(victims, [12, 13, 14, 15]);
+    assert!(blocks(&belt).contains(&10));
+}
+
+#[test]
+fn c() {
+    let mut two = start(Settings { n: 2, nnew: 0, nold: 1, cmax: 1, amax: 1, b: 8, m: 64 });
+    let (answers, _) = run(&mut two, &reads(&[0, 0, 0]));
+    assert_eq!(answers[2], word(1, 67_108_867));
+    assert_eq!(counts(&two), [2]);
+}
+
+#[test]
+fn d_e_f() {
+    assert_eq!(run(&mut start(ONE), &reads(&[0, 0, 1])).0[2], word(3, 262_144));
+
+    let mut one = start(ONE);
+    let (answers, outgoing) = run(&mut one, &[word(work::WRITE, 3), word(work::READ, 5)]);
+    assert_eq!(answers[1], word(3, 33_816_579));
+    assert_eq!((one.ins, one.outs), (1, 1));
+    assert_eq!(one.store[24..32], [1; 8]);
+    assert_eq!(outgoing[..8], one.store[40..48]);
+
+    let mut one = start(ONE);
+    let before = one.store.clone();
+    let (answers, _) = run(&mut one, &[word(work::WRITE, 3), word(work::PURGE, 3), word(work::PURGE, 3)]);
+    assert_eq!(answers, [word(2, 0), word(4, 1), word(5, 0)]);
+    assert_eq!((one.store, one.outs), (before, 0));
+}
+
+#[test]
+fn g_and_h() {
+    let mut belt = start(BELT);
+    let mut words = reads(&[10, 11, 12, 13]);
+    words.extend([word(work::PURGE, 13), word(work::READ, 12)]);
+    let (answers, _) = run(&mut belt, &words);
+    assert_eq!(answers[4..], [word(4, 0), word(1, 1)]);
+
+    let before = belt.clone();
+    assert_eq!(run(&mut belt, &[]), (vec![], vec![]));
+    assert_eq!(belt, before);
+}
+
+#[test]
+fn flush_writes_each_modified_resident_once() {
+    let mut belt = start(BELT);
+    let words = [word(work::WRITE, 1), word(work::READ, 2), word(work::WRITE, 3), word(work::FLUSH, 0)];
+    assert_eq!(run(&mut belt, &words).0[3], word(6, 2));
+    assert_eq!((belt.store[8..16].to_vec(), belt.store[24..32].to_vec()), (vec![1; 8], vec![2; 8]));
+    assert_eq!((blocks(&belt), counts(&belt), belt.outs), (vec![3, 2, 1], vec![1, 1, 1], 2));
+    assert_eq!(run(&mut belt, &words[3..]).0[0], word(6, 0));
+}
+
+#[test]
+fn a_write_makes_no_block_in() {
+    let mut one = start(ONE);
+    let (answers, _) = run(&mut one, &[word(work::WRITE, 1), word(work::WRITE, 1), word(work::WRITE, 2)]);
+    let replaced = 1 + answer::CHAIN + answer::WRITTEN_OUT;
+    assert_eq!(answers, [word(2, 0), word(1, 2), word(3, replaced)]);
+    assert_eq!((one.ins, one.outs, one.store[8..16].to_vec()), (0, 1, vec![2; 8]));
+}
+
+#[test]
+fn a_count_of_65_535_stays() {
+    let mut stack = start(Settings { n: 100, nnew: 0, nold: 1, cmax: 3, amax: 1_000, b: 8, m: 64 });
+    let words = reads(&[7; 1_024]);
+    for _ in 0..64 {
+        run(&mut stack, &words);
+    }
+    // 65,536 reads, the first of which entered
+    assert_eq!(counts(&stack), [65_535]);
+    assert_eq!(run(&mut stack, &reads(&[7])).0, [word(1, 65_535)]);
+    assert_eq!(counts(&stack), [65_535]);
+}
+
+#[test]
+fn numbers_7_to_11_on_and_beside_their_limits() {
+    let mut belt = start(BELT);
+    let whole = belt.whole();
+    assert_eq!(whole, Lent { data: 32, store: 512 });
+    let before = belt.clone();
+    let mut number = |lent: Lent, work: &[u32], incoming: usize, answers: usize, outgoing: usize| {
+        let (mut answers, mut outgoing) = (vec![9; answers], vec![9; outgoing]);
+        let number = belt.batch(lent, work, &vec![0; incoming], &mut answers, &mut outgoing);
+        assert!(answers.iter().all(|&a| a == 9) && outgoing.iter().all(|&o| o == 9));
+        number
+    };
+    assert_eq!(number(Lent { data: 31, ..whole }, &[], 0, 0, 0), 7);
+    assert_eq!(number(Lent { store: 511, ..whole }, &vec![0; 1_025], 0, 0, 0), 7);
+    assert_eq!(number(whole, &vec![0; 1_025], 0, 0, 0), 8);
+    for wrong in [word(0, 1), word(5, 1), word(15, 1), word(1, 64), word(2, 64), word(3, 64), word(4, 1)] {
+        assert_eq!(number(whole, &[wrong], 0, 0, 0), 9, "{wrong:#x}");
+    }
+    assert_eq!(number(whole, &[word(1, 63)], 0, 0, 8), 10);
+    assert_eq!(number(whole, &[word(1, 63)], 0, 1, 7), 10);
+    assert_eq!(number(whole, &[word(2, 63)], 7, 1, 0), 10);
+    assert_eq!(belt, before);
+
+    belt.reads = MOST_TOTAL - 1;
+    let (mut answers, purge) = ([0; 2], word(work::PURGE, 0));
+    assert_eq!(belt.batch(whole, &[purge; 2], &[], &mut answers, &mut []), 11);
+    assert_eq!(belt.batch(whole, &[purge], &[], &mut answers, &mut []), 0);
+}
+
+#[test]
+fn a_batch_of_1_024_words_passes() {
+    let mut belt = start(BELT);
+    run(&mut belt, &reads(&[3; 1_024]));
+    assert_eq!((belt.reads, belt.ins), (1_024, 1));
+    // the first position is new: no hit raised the count
+    assert_eq!(counts(&belt), [1]);
+}
