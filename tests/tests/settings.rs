@@ -1,8 +1,6 @@
 //! Bucket counts, named settings, and the numbers 1 to 4.
 use cache_tests::reference::rng::Rng;
-use cache_tests::reference::settings::{
-    self, Profile, MAX_AMAX, MAX_B, MAX_CMAX, MAX_M, MAX_N, PROFILES,
-};
+use cache_tests::reference::settings::{self, Profile, MAX_AMAX, MAX_B, MAX_CMAX, MAX_M, MAX_N, PROFILES};
 use cache_tests::{buckets, Settings, BELT};
 
 mod ffi {

@@ -21,20 +21,20 @@ fn cursor_of(d: &[u32], at: u32, before: u32, c: u32) -> u32
     if before == 0 {
         return head_of(d, c);
     }
-    check_stack::field(d, at, 7, before)
+    check_stack::field(d, at, layout::CHAIN_TO_TAIL, before)
 }
 
 fn chain_test(d: &[u32], at: u32, cmax: u32, e: u32, before: u32) -> bool
     ensures { λ r. ⌜ r ≡ chainTest (fld (now (d .entry)) at) (headOf (now (d .entry))) cmax e before ⌝ }
 {
-    let count = check_stack::field(d, at, 1, e);
+    let count = check_stack::field(d, at, layout::COUNT, e);
     if count > cmax {
-        if check_stack::field(d, at, 6, e) == 0 {
-            return check_stack::field(d, at, 7, e) == 0;
+        if check_stack::field(d, at, layout::CHAIN_TO_HEAD, e) == 0 {
+            return check_stack::field(d, at, layout::CHAIN_TO_TAIL, e) == 0;
         }
         return false;
     }
-    if check_stack::field(d, at, 6, e) == before {
+    if check_stack::field(d, at, layout::CHAIN_TO_HEAD, e) == before {
         return cursor_of(d, at, before, count) == e;
     }
     false
@@ -88,12 +88,12 @@ pub fn chains_ok(d: &[u32], at: u32, cmax: u32, count: u32, head: u32) -> bool
     let mut e = head;
     let mut left = count;
     while left > 0 {
-        let c = check_stack::field(d, at, 1, e);
+        let c = check_stack::field(d, at, layout::COUNT, e);
         if !chain_test(d, at, cmax, e, last_of(&last, c)) {
             return false;
         }
         note(&mut last, c, e);
-        e = check_stack::field(d, at, 5, e);
+        e = check_stack::field(d, at, layout::TO_TAIL, e);
         left -= 1;
     }
     ends_ok(d, at, cmax, &last)
@@ -109,10 +109,10 @@ fn absent_from(d: &[u32], at: u32, block: u32, budget: u32, first: u32) -> bool
         if e == 0 {
             return true;
         }
-        if check_stack::field(d, at, 0, e) == block {
+        if check_stack::field(d, at, layout::BLOCK, e) == block {
             return false;
         }
-        e = check_stack::field(d, at, 8, e);
+        e = check_stack::field(d, at, layout::NEXT_SYNONYM, e);
         left -= 1;
     }
     true
@@ -126,12 +126,12 @@ fn list_test(d: &[u32], at: u32, n: u32, nb: u32, b: u32, budget: u32, e: u32) -
     if e > n {
         return false;
     }
-    if check_stack::field(d, at, 1, e) == 0 {
+    if check_stack::field(d, at, layout::COUNT, e) == 0 {
         return false;
     }
-    let block = check_stack::field(d, at, 0, e);
+    let block = check_stack::field(d, at, layout::BLOCK, e);
     if fnv::hash(block) % nb == b {
-        return absent_from(d, at, block, budget, check_stack::field(d, at, 8, e));
+        return absent_from(d, at, block, budget, check_stack::field(d, at, layout::NEXT_SYNONYM, e));
     }
     false
 }
@@ -150,7 +150,7 @@ fn bucket(d: &[u32], at: u32, n: u32, nb: u32, b: u32, budget: u32, first: u32) 
         if !list_test(d, at, n, nb, b, left - 1, e) {
             return 0;
         }
-        e = check_stack::field(d, at, 8, e);
+        e = check_stack::field(d, at, layout::NEXT_SYNONYM, e);
         left -= 1;
     }
     if e == 0 {

@@ -133,37 +133,18 @@ module _ (w : List ℕ) where
     residents-there l p g s d =
         let n = numbers-read w (l .xs) (l .fwd) (l .many) (l .some) (p .numbers) in
         let q = good-sound w (l .xs) (l .some) g in
-        rw (order-is w l) (
-          blocks-sound w (l .xs) (l .some) d,
-          (
-            q .0,
-            (
-              q .1,
-              (
-                q .2,
-                (
-                  yes-eqb (n .sum),
-                  (
-                    yes-leb (n .average),
-                    (
-                      sections-sound w (l .xs) 0 (l .some) s,
-                      (
-                        yes-eqb (n .new),
-                        (
-                          yes-eqb (n .old),
-                          (
-                            yes-eqb {a = val w BLANK-14 + val w BLANK-15} {b = 0} (omega (arith, n .none, n .none′)),
-                            tt,
-                          ),
-                        ),
-                      ),
-                    ),
-                  ),
-                ),
-              ),
-            ),
-          ),
-        )
+        rw (order-is w l)
+        (blocks-sound w (l .xs) (l .some) d
+        , (q .0
+        , (q .1
+        , (q .2
+        , (yes-eqb (n .sum)
+        , (sections-sound w (l .xs) 0 (l .some) s
+        , (yes-eqb (n .new)
+        , (yes-eqb (n .old)
+        , (yes-eqb {a = val w BLANK-14 + val w BLANK-15} {b = 0} (omega (arith, n .none, n .none′))
+        , (yes-leb (n .average)
+        , tt))))))))))
 
     chains-there : (l : Lists w) (p : Passed) → T (all (bucketRight w) (counting 0 nb)) → All T (chainTests w)
     unfolding chainTests settingsIn totalsIn totalOf
@@ -202,16 +183,16 @@ module _ (w : List ℕ) where
     unfolding residentTests settingsIn
     residents-back l h =
         let xs : List ℕ = l .xs in
-        let r : All T (distinct (map (field w BLOCK) xs) ∷ all (blockAt w) xs ∷ all (countAt w) xs ∷ all (markAt w) xs ∷ eqb (val w SUM) (total (map (field w COUNT) xs)) ∷ leb (total (map (field w COUNT) xs)) (val w AVERAGE-LIMIT * val w CACHE-BLOCKS) ∷ sectionsRight w 0 xs ∷ eqb (val w NEW-BOUNDARY) (getD xs (val w NEW-BLOCKS) 0) ∷ eqb (val w OLD-BOUNDARY) (getD xs (val w CACHE-BLOCKS - val w OLD-BLOCKS) 0) ∷ eqb (val w BLANK-14 + val w BLANK-15) 0 ∷ []) = rw (order-is w l) at h in
-        let z : val w BLANK-14 + val w BLANK-15 ≡ 0 = eqb→eq (val w BLANK-14 + val w BLANK-15) 0 (r .1 .1 .1 .1 .1 .1 .1 .1 .1 .0) in (
+        let r : All T (distinct (map (field w BLOCK) xs) ∷ all (blockAt w) xs ∷ all (countAt w) xs ∷ all (markAt w) xs ∷ eqb (val w SUM) (total (map (field w COUNT) xs)) ∷ sectionsRight w 0 xs ∷ eqb (val w NEW-BOUNDARY) (getD xs (val w NEW-BLOCKS) 0) ∷ eqb (val w OLD-BOUNDARY) (getD xs (val w CACHE-BLOCKS - val w OLD-BLOCKS) 0) ∷ eqb (val w BLANK-14 + val w BLANK-15) 0 ∷ leb (total (map (field w COUNT) xs)) (val w AVERAGE-LIMIT * val w CACHE-BLOCKS) ∷ []) = rw (order-is w l) at h in
+        let z : val w BLANK-14 + val w BLANK-15 ≡ 0 = eqb→eq (val w BLANK-14 + val w BLANK-15) 0 (r .1 .1 .1 .1 .1 .1 .1 .1 .0) in (
           sound-good w xs (l .some) (r .1 .0) (r .1 .1 .0) (r .1 .1 .1 .0),
-          sound-sections w xs 0 (l .some) (r .1 .1 .1 .1 .1 .1 .0),
+          sound-sections w xs 0 (l .some) (r .1 .1 .1 .1 .1 .0),
           sound-blocks w xs (l .some) (r .0),
           record {
             sum = eqb→eq (val w SUM) (total (map (field w COUNT) xs)) (r .1 .1 .1 .1 .0);
-            average = leb-yes {a = total (map (field w COUNT) xs)} {b = val w AVERAGE-LIMIT * val w CACHE-BLOCKS} (r .1 .1 .1 .1 .1 .0);
-            new = eqb→eq (val w NEW-BOUNDARY) (getD xs (val w NEW-BLOCKS) 0) (r .1 .1 .1 .1 .1 .1 .1 .0);
-            old = eqb→eq (val w OLD-BOUNDARY) (getD xs (val w CACHE-BLOCKS - val w OLD-BLOCKS) 0) (r .1 .1 .1 .1 .1 .1 .1 .1 .0);
+            average = leb-yes {a = total (map (field w COUNT) xs)} {b = val w AVERAGE-LIMIT * val w CACHE-BLOCKS} (r .1 .1 .1 .1 .1 .1 .1 .1 .1 .0);
+            new = eqb→eq (val w NEW-BOUNDARY) (getD xs (val w NEW-BLOCKS) 0) (r .1 .1 .1 .1 .1 .1 .0);
+            old = eqb→eq (val w OLD-BOUNDARY) (getD xs (val w CACHE-BLOCKS - val w OLD-BLOCKS) 0) (r .1 .1 .1 .1 .1 .1 .1 .0);
             none = omega arith;
             none′ = omega arith;
           },

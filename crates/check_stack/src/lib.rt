@@ -62,7 +62,7 @@ fn link_test(d: &[u32], at: u32, n: u32, e: u32, before: u32) -> bool
     if e > n {
         return false;
     }
-    field(d, at, 4, e) == before
+    field(d, at, layout::TO_HEAD, e) == before
 }
 
 // The stack has count entries, right both ways.
@@ -77,7 +77,7 @@ pub fn stack_ok(d: &[u32], at: u32, n: u32, count: u32, head: u32, tail: u32) ->
             return false;
         }
         before = e;
-        e = field(d, at, 5, e);
+        e = field(d, at, layout::TO_TAIL, e);
         left -= 1;
     }
     if e == 0 {
@@ -101,9 +101,9 @@ fn section_at(new: u32, mid: u32, p: u32) -> u32
 fn field_test(d: &[u32], at: u32, m: u32, new: u32, mid: u32, e: u32, p: u32) -> bool
     ensures { λ r. ⌜ r ≡ fieldTest (fld (now (d .entry)) at) m new mid e p ⌝ }
 {
-    let block = field(d, at, 0, e);
-    let count = field(d, at, 1, e);
-    let modified = field(d, at, 3, e);
+    let block = field(d, at, layout::BLOCK, e);
+    let count = field(d, at, layout::COUNT, e);
+    let modified = field(d, at, layout::MODIFIED, e);
     if block < m {
         if count < 1 {
             return false;
@@ -114,7 +114,7 @@ fn field_test(d: &[u32], at: u32, m: u32, new: u32, mid: u32, e: u32, p: u32) ->
         if modified > 1 {
             return false;
         }
-        return field(d, at, 2, e) == section_at(new, mid, p);
+        return field(d, at, layout::SECTION, e) == section_at(new, mid, p);
     }
     false
 }
@@ -129,7 +129,7 @@ pub fn fields_ok(d: &[u32], at: u32, m: u32, new: u32, mid: u32, count: u32, hea
         if !field_test(d, at, m, new, mid, e, p) {
             return false;
         }
-        e = field(d, at, 5, e);
+        e = field(d, at, layout::TO_TAIL, e);
         p += 1;
     }
     true
@@ -144,15 +144,15 @@ fn unused_test(d: &[u32], at: u32, n: u32, e: u32) -> bool
     if e > n {
         return false;
     }
-    let a = field(d, at, 0, e) as u64
-        + field(d, at, 1, e) as u64
-        + field(d, at, 2, e) as u64
-        + field(d, at, 3, e) as u64;
+    let a = field(d, at, layout::BLOCK, e) as u64
+        + field(d, at, layout::COUNT, e) as u64
+        + field(d, at, layout::SECTION, e) as u64
+        + field(d, at, layout::MODIFIED, e) as u64;
     a
-        + field(d, at, 4, e) as u64
-        + field(d, at, 6, e) as u64
-        + field(d, at, 7, e) as u64
-        + field(d, at, 8, e) as u64
+        + field(d, at, layout::TO_HEAD, e) as u64
+        + field(d, at, layout::CHAIN_TO_HEAD, e) as u64
+        + field(d, at, layout::CHAIN_TO_TAIL, e) as u64
+        + field(d, at, layout::NEXT_SYNONYM, e) as u64
         == 0
 }
 
@@ -166,7 +166,7 @@ pub fn unused_ok(d: &[u32], at: u32, n: u32, count: u32, first: u32) -> bool
         if !unused_test(d, at, n, e) {
             return false;
         }
-        e = field(d, at, 5, e);
+        e = field(d, at, layout::TO_TAIL, e);
         left -= 1;
     }
     e == 0
@@ -178,7 +178,7 @@ fn nth(d: &[u32], at: u32, k: u32, head: u32) -> u32
     let mut e = head;
     let mut left = k;
     while left > 0 {
-        e = field(d, at, 5, e);
+        e = field(d, at, layout::TO_TAIL, e);
         left -= 1;
     }
     e
@@ -203,7 +203,7 @@ pub fn sum(d: &[u32], at: u32, j: u32, count: u32, head: u32) -> u64
     let mut left = count;
     while left > 0 {
         s += field(d, at, j, e) as u64;
-        e = field(d, at, 5, e);
+        e = field(d, at, layout::TO_TAIL, e);
         left -= 1;
     }
     s

@@ -61,7 +61,7 @@ module _ (s : Settings) (legal : LegalSettings s) (rest : List ℕ) where
 
   resident-tests : T (every (residentTests ws))
   unfolding residentTests freshWords
-  resident-tests = yes-every (residentTests ws) (tt, (tt, (tt, (tt, (tt, (yes-leb {a = 0} {b = settingsIn ws .amax * settingsIn ws .n} (omega arith), (tt, (tt, (tt, (tt, tt))))))))))
+  resident-tests = yes-every (residentTests ws) (tt, (tt, (tt, (tt, (tt, (tt, (tt, (tt, (tt, (yes-leb {a = 0} {b = settingsIn ws .amax * settingsIn ws .n} (omega arith), tt))))))))))
 
   -- ---- chains and buckets
 

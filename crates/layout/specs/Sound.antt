@@ -30,7 +30,7 @@ module _ (ws : List ℕ) where
   unfolding val
   totalsIn = record { reads = totalAt READS; writes = totalAt WRITES; ins = totalAt INS; outs = totalAt OUTS }
 
-  -- word j of entry e: 0 block, 1 count, 2 section, 3 modified, 4 towards head, 5 towards tail, 6 and 7 the same in the chain, 8 synonym
+  -- word j of entry e
   unfoldable pub field : ℕ → ℕ → ℕ
   unfolding settingsIn val
   field j e = val ws (entryWord settingsIn e j)
@@ -57,9 +57,15 @@ module _ (ws : List ℕ) where
   unfolding walk val
   unusedEntries = walk TO-TAIL (val ws UNUSED)
 
-  -- ---- sound
+  -- ---- sound, clause by clause
 
-  -- The stack links list r different entries, the same both ways; the other entries stand on the unused list, their other values 0.
+  -- the slice is long enough; every kind is right
+  unfoldable pub kindsRight : Bool
+  unfolding settingsIn kinds same val
+  kindsRight = same (map (λ w. w / 2 ^ 28) (take (directoryLength settingsIn) ws)) (kinds settingsIn)
+
+  -- The stack links list r different entries, the same both ways; the other entries stand on the unused list, linked by their
+  -- stack-towards-tail word, their other values 0.
   unfoldable pub stackTests : List Bool
   unfolding order unusedEntries walk same all distinct field settingsIn val
   stackTests =
@@ -72,13 +78,14 @@ module _ (ws : List ℕ) where
       ∷ all (λ e. eqb (field BLOCK e + field COUNT e + field SECTION e + field MODIFIED e + field TO-HEAD e + field CHAIN-TO-HEAD e + field CHAIN-TO-TAIL e + field NEXT-SYNONYM e) 0) unusedEntries
       ∷ []
 
-  -- along the stack from position p
+  -- the section words, along the stack from position p
   unfoldable pub sectionsRight : ℕ → List ℕ → Bool
   unfolding field settingsIn val
   sectionsRight p [] = true
   sectionsRight p (e ∷ es) = eqb (field SECTION e) (section settingsIn p) && sectionsRight (suc p) es
 
-  -- Resident blocks differ and are below M; counts are 1 to 65,535; sum, sections and words 11, 12, 14 and 15 are as defined.
+  -- Resident blocks differ and are below M; counts are 1 to 65,535 (and the modified word 0 or 1, as the layout has it); sum,
+  -- sections and words 11, 12, 14 and 15 are as defined; sum at most Amax × N.
   unfoldable pub residentTests : List Bool
   unfolding order sectionsRight all distinct total field settingsIn val
   residentTests =
@@ -89,11 +96,11 @@ module _ (ws : List ℕ) where
       ∷ all (λ e. within 1 65535 (field COUNT e)) order
       ∷ all (λ e. leb (field MODIFIED e) 1) order
       ∷ eqb (val ws SUM) sum
-      ∷ leb sum (s .amax * s .n)
       ∷ sectionsRight 0 order
       ∷ eqb (val ws NEW-BOUNDARY) (getD order (s .nnew) 0)
       ∷ eqb (val ws OLD-BOUNDARY) (getD order (s .n - s .nold) 0)
       ∷ eqb (val ws BLANK-14 + val ws BLANK-15) 0
+      ∷ leb sum (s .amax * s .n)
       ∷ []
 
   -- chain i lists exactly the residents of count i in stack order, both ways
@@ -108,7 +115,8 @@ module _ (ws : List ℕ) where
   unfolding order walk sameMembers those bucketOf field settingsIn val
   bucketRight b = sameMembers (walk NEXT-SYNONYM (val ws (bucketWord settingsIn b))) (those (λ e. eqb (bucketOf settingsIn (field BLOCK e)) b) order)
 
-  -- and a resident in no chain has chain links 0; ins at most reads; outs plus modified residents at most writes
+  -- Chain i lists its residents, and a resident in no chain has chain links 0; each bucket lists its residents; ins at most reads;
+  -- outs plus modified residents at most writes.
   unfoldable pub chainTests : List Bool
   unfolding chainRight bucketRight all counting order field settingsIn totalsIn total val
   chainTests =
@@ -119,12 +127,8 @@ module _ (ws : List ℕ) where
       ∷ leb (totalsIn .outs + total (map (field MODIFIED) order)) (totalsIn .writes)
       ∷ []
 
-  -- the slice is long enough, and every kind right
-  unfoldable pub kindsRight : Bool
-  unfolding settingsIn kinds same val
-  kindsRight = same (map (λ w. w / 2 ^ 28) (take (directoryLength settingsIn) ws)) (kinds settingsIn)
-
-  -- The settings are legal and the kinds right; then the rest.
+  -- The slice is long enough, every kind is right and the settings are legal; and all the rest. (Kinds and lists are laid out by
+  -- the settings, so those come first.)
   unfoldable pub sound : Bool
   unfolding settingsIn settingsNumber buckets kindsRight every stackTests residentTests chainTests val
   sound =

@@ -150,7 +150,7 @@ module _ (ws : List ℕ) (h : T (sound ws)) where
         few = sound-residents .few;
         legal = legal-of (order ws) (sound-residents .fit);
         differ = differ (order ws) (resident-passes .0);
-        sums = let h : total (map (field ws COUNT) (order ws)) ≤ s .amax * s .n = leb-yes (resident-passes .1 .1 .1 .1 .1 .0) in rw (sum-of (order ws)) h;
+        sums = let h : total (map (field ws COUNT) (order ws)) ≤ s .amax * s .n = leb-yes (resident-passes .1 .1 .1 .1 .1 .1 .1 .1 .1 .0) in rw (sum-of (order ws)) h;
         ins = leb-yes (chain-passes .1 .1 .1 .0);
         outs =
             let h : totalsIn ws .outs + total (map (field ws MODIFIED) (order ws)) ≤ totalsIn ws .writes = leb-yes (chain-passes .1 .1 .1 .1 .0) in

@@ -5,11 +5,11 @@ ghost use Rattle.layout.specs.Sound.{sound};
 ghost use Rattle.check_model.specs.Tests.{fld, listsTest, numbersTest, soundTest, totalOf, totalsTest};
 
 // A total, from its two words.
-fn total(d: &[u32], i: usize) -> u64
+fn total(d: &[u32], i: u32) -> u64
     requires { ⌜ i < 100 ⌝ }
     ensures { λ r. ⌜ r ≡ totalOf (now (d .entry)) i ⌝ }
 {
-    words::get(d, i) as u64 + 268435456 * (words::get(d, i + 1) as u64)
+    words::value(d, i) as u64 + 268435456 * (words::value(d, i + 1) as u64)
 }
 
 // The numbers of the header beside the stack.
@@ -26,23 +26,23 @@ fn numbers_ok(
     requires { ⌜ (n ≤ 4096) × (old ≤ n) × (average ≤ 1000) ⌝ }
     ensures { λ r. ⌜ r ≡ numbersTest (now (d .entry)) (fld (now (d .entry)) at) n new old average count head ⌝ }
 {
-    let s = check_stack::sum(d, at, 1, count, head);
-    if words::get(d, 8) as u64 != s {
+    let s = check_stack::sum(d, at, layout::COUNT, count, head);
+    if words::value(d, layout::SUM) as u64 != s {
         return false;
     }
     if s > (average as u64) * (n as u64) {
         return false;
     }
-    if words::get(d, 11) != check_stack::at_position(d, at, count, head, new) {
+    if words::value(d, layout::NEW_BOUNDARY) != check_stack::at_position(d, at, count, head, new) {
         return false;
     }
-    if words::get(d, 12) != check_stack::at_position(d, at, count, head, n - old) {
+    if words::value(d, layout::OLD_BOUNDARY) != check_stack::at_position(d, at, count, head, n - old) {
         return false;
     }
-    if words::get(d, 14) != 0 {
+    if words::value(d, layout::BLANK_14) != 0 {
         return false;
     }
-    if words::get(d, 15) != 0 {
+    if words::value(d, layout::BLANK_15) != 0 {
         return false;
     }
     true
@@ -52,10 +52,10 @@ fn totals_ok(d: &[u32], at: u32, count: u32, head: u32) -> bool
     requires { ⌜ count ≤ 4096 ⌝ }
     ensures { λ r. ⌜ r ≡ totalsTest (now (d .entry)) (fld (now (d .entry)) at) count head ⌝ }
 {
-    if total(d, 20) > total(d, 16) {
+    if total(d, layout::INS) > total(d, layout::READS) {
         return false;
     }
-    if total(d, 22) + check_stack::sum(d, at, 3, count, head) > total(d, 18) {
+    if total(d, layout::OUTS) + check_stack::sum(d, at, layout::MODIFIED, count, head) > total(d, layout::WRITES) {
         return false;
     }
     true
@@ -67,15 +67,15 @@ fn lists_ok(d: &[u32], n: u32, new: u32, old: u32, cmax: u32, average: u32, m: u
     ensures { λ r. ⌜ r ≡ listsTest (now (d .entry)) n new old cmax average m nb ⌝ }
 {
     let at = 15 + 2 * cmax + nb;
-    let count = words::get(d, 7);
-    let head = words::get(d, 9);
+    let count = words::value(d, layout::RESIDENTS);
+    let head = words::value(d, layout::HEAD);
     if count > n {
         return false;
     }
-    if !check_stack::stack_ok(d, at, n, count, head, words::get(d, 10)) {
+    if !check_stack::stack_ok(d, at, n, count, head, words::value(d, layout::TAIL)) {
         return false;
     }
-    if !check_stack::unused_ok(d, at, n, n - count, words::get(d, 13)) {
+    if !check_stack::unused_ok(d, at, n, n - count, words::value(d, layout::UNUSED)) {
         return false;
     }
     if !check_stack::fields_ok(d, at, m, new, n - old, count, head) {
@@ -96,13 +96,13 @@ fn lists_ok(d: &[u32], n: u32, new: u32, old: u32, cmax: u32, average: u32, m: u
 fn passes(d: &[u32]) -> bool
     ensures { λ r. ⌜ r ≡ soundTest (now (d .entry)) ⌝ }
 {
-    let n = words::get(d, 0);
-    let nnew = words::get(d, 1);
-    let nold = words::get(d, 2);
-    let cmax = words::get(d, 3);
-    let amax = words::get(d, 4);
-    let b = words::get(d, 5);
-    let m = words::get(d, 6);
+    let n = words::value(d, layout::CACHE_BLOCKS);
+    let nnew = words::value(d, layout::NEW_BLOCKS);
+    let nold = words::value(d, layout::OLD_BLOCKS);
+    let cmax = words::value(d, layout::CHAIN_LIMIT);
+    let amax = words::value(d, layout::AVERAGE_LIMIT);
+    let b = words::value(d, layout::BLOCK_SIZE);
+    let m = words::value(d, layout::STORE_BLOCKS);
     let s = Settings {
         n: n,
         nnew: nnew,

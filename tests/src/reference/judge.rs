@@ -127,9 +127,10 @@ impl Judge<'_> {
         }
         // and a resident in no chain has chain links 0
         let mut in_no_chain = stack.iter().filter(|&&e| self.count(e) > self.s.cmax);
-        hold(in_no_chain.all(|&e| {
-            self.of(e, entry::CHAIN_TOWARDS_HEAD) == 0 && self.of(e, entry::CHAIN_TOWARDS_TAIL) == 0
-        }))
+        hold(
+            in_no_chain
+                .all(|&e| self.of(e, entry::CHAIN_TOWARDS_HEAD) == 0 && self.of(e, entry::CHAIN_TOWARDS_TAIL) == 0),
+        )
     }
 
     fn buckets(&self, stack: &[u32]) -> Option<()> {

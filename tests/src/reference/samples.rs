@@ -31,10 +31,11 @@ pub fn settings(rng: &mut Rng, n: u32) -> Settings {
         1 => MAX_AMAX,
         _ => rng.within(1, MAX_AMAX),
     };
-    let m = match rng.below(4) {
+    let m = match rng.below(6) {
         0 => rng.within(1, MAX_M),
         1 => n,
         2 => rng.within(n, 2 * n),
+        3 => rng.within(1, n),
         _ => MAX_M,
     };
     let b = if rng.one_in(4) { MAX_B } else { rng.within(1, MAX_B) };
@@ -54,23 +55,42 @@ pub fn plan(rng: &mut Rng, s: Settings) -> Plan {
 
 /// A sound directory with `r` residents, which N and M must have room for.
 pub fn plan_of(rng: &mut Rng, s: Settings, r: u32) -> Plan {
-    let mut residents: Vec<Resident> = blocks(rng, s, r)
-        .into_iter()
-        .map(|block| Resident { block, count: 1, modified: rng.below(2) as u32 })
-        .collect();
+    // now and then all blocks in one bucket
+    let one_bucket = s.n <= 64 && s.m == MAX_M && rng.one_in(3);
+    let blocks = different_blocks(rng, s, r, |block| !one_bucket || home(s, block) == 0);
+    plan_with(rng, s, blocks)
+}
+
+/// A sound directory with these different blocks, most recent first.
+pub fn plan_with(rng: &mut Rng, s: Settings, blocks: Vec<u32>) -> Plan {
+    let r = blocks.len() as u32;
+    let marked = |block| Resident { block, count: 1, modified: rng.below(2) as u32 };
+    let mut residents: Vec<Resident> = blocks.into_iter().map(marked).collect();
     raise_counts(rng, s, &mut residents);
     let modified = residents.iter().filter(|resident| resident.modified == 1).count() as u64;
     Plan { settings: s, totals: totals(rng, modified), arrangement: arrangement(rng, s.n, r), residents }
 }
 
-/// Different blocks; now and then most of them in one bucket.
-fn blocks(rng: &mut Rng, s: Settings, r: u32) -> Vec<u32> {
-    let mut blocks: Vec<u32> = Vec::new();
-    let crowded = s.n <= 64 && s.m == MAX_M && rng.one_in(3);
+/// Blocks as they come.
+pub fn scattered_blocks(rng: &mut Rng, s: Settings, r: u32) -> Vec<u32> {
+    different_blocks(rng, s, r, |_| true)
+}
+
+/// Blocks in as few buckets as they fit into.
+pub fn crowded_blocks(rng: &mut Rng, s: Settings, r: u32) -> Vec<u32> {
+    let mut blocks: Vec<u32> = (0..s.m).collect();
+    blocks.sort_by_key(|&block| home(s, block));
+    blocks.truncate(r as usize);
+    rng.shuffle(&mut blocks);
+    blocks
+}
+
+fn different_blocks(rng: &mut Rng, s: Settings, r: u32, wanted: impl Fn(u32) -> bool) -> Vec<u32> {
+    let mut blocks = Vec::new();
     let mut taken = vec![false; s.m as usize];
     while (blocks.len() as u32) < r {
         let mut block = rng.within(0, s.m - 1);
-        while taken[block as usize] || crowded && home(s, block) != 0 {
+        while taken[block as usize] || !wanted(block) {
             block = (block + 1) % s.m;
         }
         taken[block as usize] = true;

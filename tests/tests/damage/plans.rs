@@ -164,7 +164,7 @@ fn few_residents(rng: &mut Rng, s: Settings) -> Option<Vec<u32>> {
 }
 fn beyond_a_limit(plan: &Plan, rng: &mut Rng) -> Option<Vec<u32>> {
     let mut s = plan.settings;
-    match rng.below(if rng.one_in(20) { 9 } else { 8 }) {
+    match rng.below(9) {
         0 => s.cmax = 0,
         1 => s.cmax = MAX_CMAX + 1,
         // an Amax of 0 leaves no room for residents
@@ -186,7 +186,7 @@ fn beyond_a_limit(plan: &Plan, rng: &mut Rng) -> Option<Vec<u32>> {
 }
 fn on_a_limit(plan: &Plan, rng: &mut Rng) -> Option<Vec<u32>> {
     let mut s = plan.settings;
-    match rng.below(if rng.one_in(20) { 9 } else { 8 }) {
+    match rng.below(9) {
         0 => s.cmax = 1,
         1 => s.cmax = MAX_CMAX,
         2 => s.amax = 1,

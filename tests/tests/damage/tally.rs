@@ -17,13 +17,17 @@ impl Tally {
             let shown = &words[..words.len().min(600)];
             panic!("{region}: judge {verdict}, fast judge {fast}, library {library}; words {shown:#x?}");
         }
+        self.count(region, verdict);
+        verdict
+    }
+
+    pub fn count(&mut self, region: &str, verdict: bool) {
         let row = self.rows.entry(region.to_string()).or_default();
         if verdict {
             row.0 += 1;
         } else {
             row.1 += 1;
         }
-        verdict
     }
 
     pub fn of(&self, region: &str) -> (u64, u64) {
@@ -35,11 +39,11 @@ impl Tally {
     }
 
     pub fn print(&self, title: &str) {
-        println!("{title:<44} {:>8} {:>8} {:>8}", "cases", "sound", "unsound");
+        println!("{title:<48} {:>8} {:>8} {:>8}", "cases", "sound", "unsound");
         for (region, (sound, unsound)) in &self.rows {
-            println!("  {region:<42} {:>8} {sound:>8} {unsound:>8}", sound + unsound);
+            println!("  {region:<46} {:>8} {sound:>8} {unsound:>8}", sound + unsound);
         }
         let (sound, unsound) = self.total();
-        println!("  {:<42} {:>8} {sound:>8} {unsound:>8}", "all", sound + unsound);
+        println!("  {:<46} {:>8} {sound:>8} {unsound:>8}", "all", sound + unsound);
     }
 }

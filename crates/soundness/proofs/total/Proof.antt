@@ -1,23 +1,23 @@
 use borrow.Author.Tests.{lt-ltb, le-ltb, eq-eqb, ne-eqb}
 use borrow.Author.Needs.{needs}
 use Rattle.check_model.specs.Tests.{totalOf}
-use Rattle.words.proofs.get.Reads as get-reads
+use Rattle.words.proofs.value.Reads as get-reads
 use Rattle.soundness.proofs.total.Statement.{statement}
 use Rattle.soundness.proofs.total.Tie as tie
 use Rattle.soundness.proofs.total.Reads as reads
 use Rattle.soundness.proofs.total.Lts as lts
 
-get-requires : tie.Need-get-requires
-get-requires c κs = search needs
+value-requires : tie.Need-value-requires
+value-requires c κs = search needs
 
 cast-result : tie.Need-cast-result
 cast-result c = search needs
 
-add-get : tie.Need-add-get
-add-get c = search needs
+add-value : tie.Need-add-value
+add-value c = search needs
 
-get-requires-2 : tie.Need-get-requires-2
-get-requires-2 c κs = search needs
+value-requires-2 : tie.Need-value-requires-2
+value-requires-2 c κs = search needs
 
 cast-result-2 : tie.Need-cast-result-2
 cast-result-2 c = search needs
@@ -30,16 +30,16 @@ add-result c = search needs
 
 returns : tie.Need-returns
 unfolding totalOf
-returns c = search (needs, lt-ltb, le-ltb, eq-eqb, ne-eqb, ← c .before .get .ensures, ← c .get2 .ensures)
+returns c = search (needs, lt-ltb, le-ltb, eq-eqb, ne-eqb, ← c .before .value .ensures, ← c .value2 .ensures)
 
 pub total-spec : {M : Type 1} → statement M
 total-spec =
     tie.close
     (tie.spec
-    get-requires
+    value-requires
     cast-result
-    add-get
-    get-requires-2
+    add-value
+    value-requires-2
     cast-result-2
     mul-result
     add-result
