@@ -4,7 +4,8 @@ mod damage;
 use cache_tests::reference::builder::Plan;
 use cache_tests::reference::rng::Rng;
 use cache_tests::reference::samples;
-use cache_tests::reference::settings::{sum_limit, MAX_AMAX, MAX_B, MAX_CMAX, MAX_M, MAX_N};
+use cache_tests::reference::settings::{sum_limit, MAX_AMAX, MAX_B, MAX_CMAX, MAX_COUNT, MAX_M, MAX_N};
+use cache_tests::reference::stack::PlainStack;
 use cache_tests::Settings;
 use damage::tally::Tally;
 use damage::{links, plans, regions, small_plan};
@@ -28,7 +29,7 @@ fn corners(plan: &Plan) -> Vec<&'static str> {
         (s.b == MAX_B, "B 4,096"),
         (s.m == MAX_M, "M 262,144"),
         (s.m < s.n, "M below N"),
-        (has_count(65_535), "count 65,535"),
+        (has_count(MAX_COUNT), "count 65,535"),
         (plan.residents.iter().any(|resident| resident.count > s.cmax), "count above Cmax"),
         (plan.sum() == sum_limit(s), "sum at Amax x N"),
         (plan.totals.writes == plan.totals.outs + plan.modified(), "outs + modified = writes"),
@@ -76,6 +77,29 @@ fn all_settings_at_their_upper_limits() {
         assert!(tally.judge("full, N 4,096", &plan.build()));
     }
     tally.print("upper limits");
+}
+
+/// Directories of states that plain stacks reach, with any entry numbers and synonym orders.
+#[test]
+fn states_of_plain_stacks_are_accepted() {
+    let mut rng = Rng::announced("states_of_plain_stacks_are_accepted", 38);
+    let mut tally = Tally::default();
+    for _ in 0..400 {
+        let n = rng.within(1, 24);
+        let s = Settings { b: rng.within(1, 4), m: rng.within(1, 4 * n), ..samples::settings(&mut rng, n) };
+        let mut stack = PlainStack::new(s, vec![0; (s.m * s.b) as usize]);
+        for _ in 0..10 {
+            let length = rng.within(0, 60) as usize;
+            let words = samples::work_words(&mut rng, s, length);
+            let bytes = vec![1; length * s.b as usize];
+            let (lent, mut answers, mut outgoing) = (stack.whole(), vec![0; length], bytes.clone());
+            assert_eq!(stack.batch(lent, &words, &bytes, &mut answers, &mut outgoing), 0);
+            let arrangement = samples::arrangement(&mut rng, n, stack.residents.len() as u32);
+            let plan = Plan::of_stack(&stack, arrangement);
+            assert!(tally.judge("after a batch", &plan.build()), "{plan:?}");
+        }
+    }
+    tally.print("states of plain stacks");
 }
 
 /// The number of cases in each region and of each aimed damage.

@@ -3,7 +3,8 @@
 //!
 //! A plan is written down as the layout defines it and isn't judged: one with a block of M or a count of 0 gives words
 //! that are wrong in that one respect only.
-use super::directory::{entry, header, link, number, word, Map, MAX_VALUE, VALUE_BITS};
+use super::directory::{entry, header, link, number, word, Map, MAX_VALUE, MIDDLE, NEW, OLD, VALUE_BITS};
+use super::stack::{self, PlainStack};
 use super::{fnv, settings};
 use crate::Settings;
 
@@ -22,7 +23,7 @@ pub struct Totals {
     pub outs: u64,
 }
 
-/// What document and history leave open.
+/// What the scope leaves open: entry numbers, the order of the unused list, synonym order.
 #[derive(Clone, Debug)]
 pub struct Arrangement {
     /// The entry of the resident at each position.
@@ -42,10 +43,6 @@ pub struct Plan {
     pub arrangement: Arrangement,
 }
 
-pub const NEW: u32 = 0;
-pub const MIDDLE: u32 = 1;
-pub const OLD: u32 = 2;
-
 pub fn section(s: Settings, position: usize) -> u32 {
     if position < s.nnew as usize {
         NEW
@@ -62,6 +59,20 @@ pub fn home(s: Settings, block: u32) -> usize {
 }
 
 impl Plan {
+    /// The directory of a plain stack's state.
+    pub fn of_stack(stack: &PlainStack, arrangement: Arrangement) -> Plan {
+        let resident = |held: &stack::Resident| Resident {
+            block: held.block,
+            count: held.count,
+            modified: u32::from(held.modified),
+        };
+        Plan {
+            settings: stack.settings,
+            residents: stack.residents.iter().map(resident).collect(),
+            totals: Totals { reads: stack.reads, writes: stack.writes, ins: stack.ins, outs: stack.outs },
+            arrangement,
+        }
+    }
     pub fn map(&self) -> Map {
         Map::of(self.settings)
     }

@@ -60,6 +60,12 @@ pub mod entry {
     ];
 }
 
+/// Values of the section word.
+pub const NEW: u32 = 0;
+pub const MIDDLE: u32 = 1;
+pub const OLD: u32 = 2;
+
+/// Kinds of directory words.
 pub const NUMBER: u32 = 1;
 pub const LINK: u32 = 2;
 pub const VALUE_BITS: u32 = 28;

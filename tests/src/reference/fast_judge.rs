@@ -1,8 +1,10 @@
 //! The same verdict as `judge` in one walk along the stack, the unused list and the buckets, without memory of its own:
 //! what a careful Rust programmer would write, and the mark that the library's check is timed against.
-use super::directory::{entry, header, LINK, MAX_VALUE, NUMBER, VALUE_BITS};
+//! Every directory that the soundness tests judge is judged by it too.
+use super::directory::{entry, header, LINK, MAX_VALUE, MIDDLE, NEW, NUMBER, OLD, VALUE_BITS};
 use super::directory::{settings_of, Map};
-use super::{fnv, settings};
+use super::fnv;
+use super::settings::{self, MAX_COUNT};
 use crate::Settings;
 
 const CHAIN_SLOTS: usize = settings::MAX_CMAX as usize + 1;
@@ -77,11 +79,15 @@ impl<'a> Check<'a> {
                 return false;
             }
             let resident = self.entry(e).map(|word| word & MAX_VALUE);
-            let section = if position < nnew { 0 } else { 1 + u32::from(position >= first_old) };
+            let section = match position {
+                _ if position < nnew => NEW,
+                _ if position < first_old => MIDDLE,
+                _ => OLD,
+            };
             let count = resident[entry::COUNT];
             if resident[entry::TOWARDS_HEAD] != before
                 || resident[entry::BLOCK] >= self.s.m
-                || !(1..=65_535).contains(&count)
+                || !(1..=MAX_COUNT).contains(&count)
                 || resident[entry::SECTION] != section
                 || resident[entry::MODIFIED] > 1
                 || !self.chained(e, &resident, &mut chain_tails)

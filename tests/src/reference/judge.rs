@@ -1,7 +1,8 @@
 //! The soundness judge: "Sound means", clause by clause and in that order, as plainly as it can be said.
 //! It answers for any slice of any words and is quadratic.
-use super::directory::{entry, header, kind, settings_of, value, Map};
-use super::{fnv, settings};
+use super::directory::{entry, header, kind, settings_of, value, Map, MIDDLE, NEW, OLD, VALUE_BITS};
+use super::fnv;
+use super::settings::{self, MAX_COUNT};
 use crate::Settings;
 
 pub fn sound(words: &[u32]) -> bool {
@@ -40,7 +41,7 @@ impl Judge<'_> {
         self.of(e, entry::COUNT)
     }
     fn total(&self, low: usize, high: usize) -> u64 {
-        u64::from(self.at(low)) + (u64::from(self.at(high)) << 28)
+        u64::from(self.at(low)) + (u64::from(self.at(high)) << VALUE_BITS)
     }
 
     /// The different entries from `first` on along a link word; none if a link names no entry or the list comes back.
@@ -93,7 +94,7 @@ impl Judge<'_> {
         hold((0..blocks.len()).all(|p| !blocks[..p].contains(&blocks[p])))?;
         hold(blocks.iter().all(|&block| block < self.s.m))?;
         // counts are 1 to 65,535
-        hold(stack.iter().all(|&e| (1..=65_535).contains(&self.count(e))))?;
+        hold(stack.iter().all(|&e| (1..=MAX_COUNT).contains(&self.count(e))))?;
         // modified (0 or 1)
         hold(stack.iter().all(|&e| self.of(e, entry::MODIFIED) <= 1))
     }
@@ -104,9 +105,9 @@ impl Judge<'_> {
         hold(u64::from(self.at(header::SUM)) == sum)?;
         let first_old = (self.s.n - self.s.nold) as usize;
         let section = |position: usize| match position {
-            _ if position < self.s.nnew as usize => 0,
-            _ if position >= first_old => 2,
-            _ => 1,
+            _ if position < self.s.nnew as usize => NEW,
+            _ if position >= first_old => OLD,
+            _ => MIDDLE,
         };
         hold(stack.iter().enumerate().all(|(p, &e)| self.of(e, entry::SECTION) == section(p)))?;
         let resident_at = |position: usize| stack.get(position).copied().unwrap_or(0);

@@ -14,7 +14,7 @@ impl Rng {
         Rng(seed)
     }
 
-    pub fn next(&mut self) -> u64 {
+    pub fn draw(&mut self) -> u64 {
         self.0 = self.0.wrapping_add(0x9e37_79b9_7f4a_7c15);
         let z = (self.0 ^ (self.0 >> 30)).wrapping_mul(0xbf58_476d_1ce4_e5b9);
         let z = (z ^ (z >> 27)).wrapping_mul(0x94d0_49bb_1331_11eb);
@@ -22,13 +22,13 @@ impl Rng {
     }
 
     pub fn word(&mut self) -> u32 {
-        (self.next() >> 32) as u32
+        (self.draw() >> 32) as u32
     }
 
     /// From 0 up to, and without, `bound`.
     pub fn below(&mut self, bound: u64) -> u64 {
         assert!(bound > 0, "nothing lies below 0");
-        self.next() % bound
+        self.draw() % bound
     }
 
     /// From `low` to `high`, both included.
@@ -58,7 +58,7 @@ mod tests {
     #[test]
     fn published_splitmix64_values() {
         let mut rng = Rng::seeded(1234567);
-        let drawn = [rng.next(), rng.next(), rng.next()];
+        let drawn = [rng.draw(), rng.draw(), rng.draw()];
         assert_eq!(drawn, [6457827717110365317, 3203168211198807973, 9817491932198370423]);
     }
 

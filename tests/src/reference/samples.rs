@@ -1,7 +1,9 @@
 //! Random settings and sound directories with corners drawn often.
 use super::builder::{home, Arrangement, Plan, Resident, Totals};
+use super::directory::word;
 use super::rng::Rng;
-use super::settings::{sum_limit, MAX_AMAX, MAX_B, MAX_CMAX, MAX_M};
+use super::settings::{sum_limit, MAX_AMAX, MAX_B, MAX_CMAX, MAX_COUNT, MAX_M};
+use super::stack::work;
 use crate::Settings;
 
 /// Legal settings for `n` cache blocks.
@@ -106,12 +108,12 @@ fn raise_counts(rng: &mut Rng, s: Settings, residents: &mut [Resident]) {
     rng.shuffle(&mut order);
     let manner = rng.below(4);
     for &position in &order {
-        let most = budget.min(65_534);
+        let most = budget.min(u64::from(MAX_COUNT - 1));
         let raise = match manner {
             // around the chain limit
             0 => rng.below(u64::from(s.cmax) + 3),
             1 => rng.below(3),
-            // as much as there is: counts of 65,535 and sums at the limit
+            // as much as there is: the highest counts and sums at the limit
             2 => most,
             _ => rng.below(most + 1),
         };
@@ -121,7 +123,7 @@ fn raise_counts(rng: &mut Rng, s: Settings, residents: &mut [Resident]) {
     // up to the limit exactly, for the manners that leave something
     if rng.one_in(3) {
         for &position in &order {
-            let raise = budget.min(u64::from(65_535 - residents[position].count));
+            let raise = budget.min(u64::from(MAX_COUNT - residents[position].count));
             residents[position].count += raise as u32;
             budget -= raise;
         }
@@ -137,6 +139,19 @@ fn totals(rng: &mut Rng, modified: u64) -> Totals {
     let ins = if rng.one_in(2) { reads } else { rng.below(reads + 1) };
     let outs = if rng.one_in(2) { most_outs } else { rng.below(most_outs + 1) };
     Totals { reads, writes, ins, outs }
+}
+
+/// Well-formed work words on few blocks, so that most are hits, or on many, so that most replace.
+pub fn work_words(rng: &mut Rng, s: Settings, length: usize) -> Vec<u32> {
+    let few = if rng.one_in(2) { s.n } else { 3 * s.n };
+    let blocks = rng.within(1, few).min(s.m);
+    let mut one = || match rng.below(20) {
+        0 => word(work::FLUSH, 0),
+        1..=2 => word(work::PURGE, rng.within(0, blocks - 1)),
+        3..=8 => word(work::WRITE, rng.within(0, blocks - 1)),
+        _ => word(work::READ, rng.within(0, blocks - 1)),
+    };
+    (0..length).map(|_| one()).collect()
 }
 
 /// Entry numbers, unused list and synonym order at random.

@@ -7,6 +7,8 @@ pub const MAX_CMAX: u32 = 64;
 pub const MAX_AMAX: u32 = 1_000;
 pub const MAX_B: u32 = 4_096;
 pub const MAX_M: u32 = 262_144;
+/// No setting, but a limit too: a resident's count is 1 to this.
+pub const MAX_COUNT: u32 = 65_535;
 
 /// The first number of the table, from 1 to 4, whose condition the settings meet; 0 if they are legal.
 pub fn number(s: Settings) -> u32 {

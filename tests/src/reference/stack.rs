@@ -1,4 +1,6 @@
 //! The plain stack: residents with their bytes in recency order, the store, the totals, and batches of work words.
+use super::directory::{kind, value, word};
+use super::settings::MAX_COUNT;
 use crate::Settings;
 
 #[cfg(test)]
@@ -29,20 +31,8 @@ pub mod answer {
     pub const WRITTEN_OUT: u32 = 1 << 25;
 }
 
-pub const MOST_COUNT: u32 = 65_535;
 /// Reads, writes and batch length together stay at most this.
 pub const MOST_TOTAL: u64 = (1 << 56) - 1;
-
-/// A work or answer word.
-pub fn word(kind: u32, value: u32) -> u32 {
-    kind << 28 | value
-}
-fn kind(word: u32) -> u32 {
-    word >> 28
-}
-fn value(word: u32) -> u32 {
-    word & ((1 << 28) - 1)
-}
 
 #[derive(Clone, Debug, PartialEq, Eq)]
 pub struct Resident {
@@ -191,7 +181,7 @@ impl PlainStack {
 
     fn hit(&mut self, position: usize) -> u32 {
         let mut resident = self.residents.remove(position);
-        if position >= self.settings.nnew as usize && resident.count < MOST_COUNT {
+        if position >= self.settings.nnew as usize && resident.count < MAX_COUNT {
             resident.count += 1;
         }
         let answer = word(answer::HIT, resident.count);

@@ -1,9 +1,7 @@
 //! Damages to the links, most of them consistent lists in themselves: it takes the right clause to see what is wrong.
 use super::{either, position, two_positions, unsound, Aimed};
-use cache_tests::reference::builder::{
-    home, section, write_bucket, write_chain, write_stack, write_unused, Plan, NEW, OLD,
-};
-use cache_tests::reference::directory::{entry, header, link, number, value, Map};
+use cache_tests::reference::builder::{home, section, write_bucket, write_chain, write_stack, write_unused, Plan};
+use cache_tests::reference::directory::{entry, header, link, number, value, Map, NEW, OLD};
 use cache_tests::reference::rng::Rng;
 
 pub const AIMED: [Aimed; 35] = [

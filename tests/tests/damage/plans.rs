@@ -5,7 +5,7 @@ use cache_tests::reference::builder::{Plan, Totals};
 use cache_tests::reference::directory::{header, number, MAX_VALUE};
 use cache_tests::reference::rng::Rng;
 use cache_tests::reference::samples;
-use cache_tests::reference::settings::{sum_limit, MAX_AMAX, MAX_B, MAX_CMAX, MAX_M, MAX_N};
+use cache_tests::reference::settings::{sum_limit, MAX_AMAX, MAX_B, MAX_CMAX, MAX_COUNT, MAX_M, MAX_N};
 use cache_tests::Settings;
 
 pub const AIMED: [Aimed; 24] = [
@@ -14,8 +14,8 @@ pub const AIMED: [Aimed; 24] = [
     unsound("block beyond M", block_beyond_m),
     sound("block M - 1", last_block),
     unsound("count 0", |plan, rng| with_count(plan, rng, 0)),
-    unsound("count 65,536", |_, rng| high_count(rng, 65_536)),
-    sound("count 65,535", |_, rng| high_count(rng, 65_535)),
+    unsound("count 65,536", |_, rng| high_count(rng, MAX_COUNT + 1)),
+    sound("count 65,535", |_, rng| high_count(rng, MAX_COUNT)),
     unsound("modified 2 or more", modified_2),
     sound("sum at Amax x N", |plan, rng| with_sum(plan, rng, 0)),
     unsound("sum Amax x N + 1", |plan, rng| with_sum(plan, rng, 1)),
@@ -100,7 +100,7 @@ fn with_sum(plan: &Plan, rng: &mut Rng, above: u64) -> Option<Vec<u32>> {
     let p = position(&plan, rng)?;
     let missing = sum_limit(plan.settings) + above - plan.sum();
     let count = u64::from(plan.residents[p].count) + missing;
-    plan.residents[p].count = (count <= 65_535).then_some(count as u32)?;
+    plan.residents[p].count = (count <= u64::from(MAX_COUNT)).then_some(count as u32)?;
     Some(plan.build())
 }
 

@@ -198,8 +198,8 @@ fn random_words(plan: &Plan, rng: &mut Rng) -> Vec<u32> {
 /// Legal settings and right kinds, all other values at random: the walks meet anything.
 fn random_after_settings(plan: &Plan, rng: &mut Rng) -> Vec<u32> {
     let mut words = plan.build();
-    for address in header::RESIDENTS..words.len() {
-        words[address] = word(kind(words[address]), rng.within(0, plan.settings.n));
+    for any in &mut words[header::RESIDENTS..] {
+        *any = word(kind(*any), rng.within(0, plan.settings.n));
     }
     words
 }

@@ -1,5 +1,7 @@
 //! The examples of the scope, those with a letter and the others.
 use super::*;
+use crate::reference::rng::Rng;
+use crate::reference::samples;
 use crate::BELT;
 
 const ONE: Settings = Settings { n: 1, nnew: 0, nold: 1, cmax: 1, amax: 10, b: 8, m: 64 };
@@ -149,6 +151,50 @@ fn numbers_7_to_11_on_and_beside_their_limits() {
     let (mut answers, purge) = ([0; 2], word(work::PURGE, 0));
     assert_eq!(belt.batch(whole, &[purge; 2], &[], &mut answers, &mut []), 11);
     assert_eq!(belt.batch(whole, &[purge], &[], &mut answers, &mut []), 0);
+}
+
+/// What the scope says of every history: the chains reported are the victim's count or Cmax, the victim is old, the sum
+/// keeps its limit, totals fit together, and a read gives what was last written or stood in the store.
+#[test]
+fn random_batches_keep_the_invariants() {
+    let mut rng = Rng::announced("random_batches_keep_the_invariants", 51);
+    let mut seen = [0u32; 7];
+    let mut halved = 0;
+    for _ in 0..600 {
+        let n = rng.within(1, 20);
+        let s = Settings { b: 2, m: rng.within(1, 3 * n), ..samples::settings(&mut rng, n) };
+        let mut stack = start(s);
+        let mut present: Vec<Vec<u8>> = stack.store.chunks(2).map(|bytes| bytes.to_vec()).collect();
+        for (i, w) in samples::work_words(&mut rng, s, 300).into_iter().enumerate() {
+            let (before, bytes) = (stack.clone(), [i as u8, (i / 256) as u8]);
+            let (mut answers, mut outgoing, lent) = ([0], [0; 2], stack.whole());
+            assert_eq!(stack.batch(lent, &[w], &bytes, &mut answers, &mut outgoing), 0);
+            let (block, answered) = (value(w) as usize, kind(answers[0]));
+            seen[answered as usize] += 1;
+            halved +=
+                u32::from(matches!(answered, answer::HIT | answer::ENTERED) && value(answers[0]) >= answer::HALVED);
+            match kind(w) {
+                work::READ => assert_eq!(outgoing, present[block][..]),
+                work::WRITE => present[block] = bytes.to_vec(),
+                // modified bytes are given up
+                work::PURGE => present[block] = stack.store[2 * block..2 * block + 2].to_vec(),
+                _ => assert!(stack.residents.iter().all(|resident| !resident.modified)),
+            }
+            if answered == answer::REPLACED {
+                let victim = value(answers[0]) % answer::CHAIN;
+                let p = before.position(victim).unwrap();
+                let chains = value(answers[0]) / answer::CHAIN % 128;
+                assert!(p >= (s.n - s.nold) as usize && stack.position(victim).is_none());
+                assert_eq!(chains, before.residents[p].count.min(s.cmax));
+            }
+            let sum: u64 = stack.residents.iter().map(|resident| u64::from(resident.count)).sum();
+            assert!(sum <= u64::from(s.amax * s.n) && stack.residents.len() <= s.n as usize);
+            let modified = stack.residents.iter().filter(|resident| resident.modified).count() as u64;
+            assert!(stack.ins <= stack.reads && stack.outs + modified <= stack.writes);
+        }
+    }
+    println!("answers 1 to 6: {:?}, {halved} with counts halved", &seen[1..]);
+    assert!(seen[1..].iter().all(|&times| times > 1_000) && halved > 1_000);
 }
 
 #[test]
