@@ -6,7 +6,7 @@ use mathlib.Core.Logic.{⊎-elim}
 use mathlib.Core.Bool.{Bool, true, false}
 use mathlib.Core.List.{List}
 use native.Mathlib.Omega.{arith}
-use lib.ListN.{length, getD, List·getD-eq-default}
+use lib.ListN.{length, drop, getD, List·getD-eq-default}
 use lib.Dec.{T, ltb, eqb, eqb→eq}
 use borrow.Author.Tests.{lt-ltb, le-ltb, eq-eqb, ne-eqb}
 use mir.Facts.{yes-eqb}
@@ -34,7 +34,7 @@ module _ (w : List ℕ) where
   given = record { n = val w CACHE-BLOCKS; nnew = val w NEW-BLOCKS; nold = val w OLD-BLOCKS; cmax = val w CHAIN-LIMIT; amax = val w AVERAGE-LIMIT; b = val w BLOCK-SIZE; m = val w STORE-BLOCKS }
 
   abbrev pub shape : Shape
-  shape = record { N = val w CACHE-BLOCKS; new = val w NEW-BLOCKS; old = val w CACHE-BLOCKS - val w OLD-BLOCKS; cmax = val w CHAIN-LIMIT; nb = buckets (val w CACHE-BLOCKS); M = val w STORE-BLOCKS; hash = λ b. fnv b % buckets (val w CACHE-BLOCKS) }
+  shape = record { N = val w CACHE-BLOCKS; new = val w NEW-BLOCKS; old = val w CACHE-BLOCKS - val w OLD-BLOCKS; cmax = val w CHAIN-LIMIT; nb = buckets (val w CACHE-BLOCKS); M = val w STORE-BLOCKS; hash = λ b. fnv b % buckets (val w CACHE-BLOCKS); rest = drop (24 + 2 * val w CHAIN-LIMIT + buckets (val w CACHE-BLOCKS) + 9 * val w CACHE-BLOCKS) w }
 
   abbrev pub addr : ℕ → ℕ → ℕ
   addr k e = pick (ltb k 9) (pick (eqb e 0) (14 - k) (15 + 2 * val w CHAIN-LIMIT + buckets (val w CACHE-BLOCKS) + 9 * e + k)) (pick (ltb k 12) (12 + 2 * e + k) (pick (ltb k 13) (24 + 2 * val w CHAIN-LIMIT + e) (k - 20)))
@@ -90,6 +90,7 @@ module _ (w : List ℕ) where
       record {
         some = some;
         long = omega (arith, there (base + 9 * val w CACHE-BLOCKS - 1) (t (base + 9 * val w CACHE-BLOCKS - 1) (omega arith)));
+        past = refl;
         holds = λ k e a p. rw (address-is k e a p, ← address-kind k e a p) (value a (t a (addresses.address-below shape k e a some p)));
         small = λ k e a p. low (addr k e);
       }
