@@ -6,3 +6,4 @@ pub mod WordFields
 pub mod FromSound
 pub mod ToSound
 pub mod Linkage
+pub mod Return

@@ -5,6 +5,7 @@ use mathlib.Core.Path.{_≡_, refl, _∙_, sym, ap}
 use mathlib.Core.Bool.{Bool, true, false}
 use mathlib.Core.List.{List, [], _∷_, map}
 use native.Mathlib.Omega.{arith}
+use native.Mathlib.Numerals.{add-one}
 use lib.ListN.{length, getD}
 use lib.Dec.{T, eqb}
 use borrow.Author.Tests.{eq-eqb, eqb-true}
@@ -25,13 +26,13 @@ use Rattle.fnv.specs.Fnv.{fnv}
 use Rattle.settings.specs.NumbersLaws.{LegalSettings, number-zero}
 use Rattle.settings.specs.Buckets.{buckets}
 use Rattle.layout.specs.Addresses.{CACHE-BLOCKS, NEW-BLOCKS, OLD-BLOCKS, CHAIN-LIMIT, AVERAGE-LIMIT, BLOCK-SIZE, STORE-BLOCKS, RESIDENTS, SUM, HEAD, TAIL, UNUSED, BLOCK, COUNT, SECTION, MODIFIED, TO-HEAD, TO-TAIL, CHAIN-TO-HEAD, CHAIN-TO-TAIL, NEXT-SYNONYM, chainHead, chainTail}
-use Rattle.layout.specs.Sound.{field, settingsIn, bucketRight, sound}
+use Rattle.layout.specs.Sound.{order, unusedEntries, totalAt, field, settingsIn, bucketRight, sound}
 use Rattle.check_model.specs.Tests.{fld, headOf, tailOf, firstOf, totalOf, sectionAt, bucketsFrom}
 use Rattle.check_model.specs.Runs.{zeros, Zeros}
-use Rattle.check_model.specs.Along.{fw}
+use Rattle.check_model.specs.Along.{fw, field-is}
 use Rattle.check_model.specs.Membership.{all-at, below-all}
 use Rattle.check_model.specs.Members.{In, inside-of, in-sift, sift-in, sifted, map-distinct}
-use Rattle.check_model.specs.Stack.{Lists, lists-dll, lists-fit, everywhere}
+use Rattle.check_model.specs.Stack.{Lists, lists-dll, lists-fit, everywhere, order-is, unused-is}
 use Rattle.check_model.specs.Fields.{Good, Sections, Numbers, map-field}
 use Rattle.check_model.specs.Chains.{Chained}
 use Rattle.check_model.specs.Buckets.{buckets-read}
@@ -335,3 +336,18 @@ module _ (w : List ℕ) (D : Fields) (xs ys : List ℕ) (v : View (shape w) w D)
 
   pub sound-of-linked : T (sound w)
   sound-of-linked = facts-sound w legally (of-view w D v) facts
+
+  -- ---- the lists, residents and totals that the words are read off as
+
+  pub order-of-linked : order w ≡ xs
+  order-of-linked = order-is w listing
+
+  pub unused-of-linked : unusedEntries w ≡ ys
+  unused-of-linked = unused-is w listing
+
+  pub field-of-linked : (j e : ℕ) → j < 9 → 1 ≤ e → e ≤ N → field w j e ≡ D j e
+  field-of-linked j e a b c = field-is w j e (λ z. omega arith) ∙ at j e a b c
+
+  pub total-of-linked : (i : ℕ) → 16 ≤ i → i < 23 → totalAt w i ≡ form.total D (20 + i)
+  unfolding totalOf
+  total-of-linked i a b = rw (← add-one i) (total-of i a b)

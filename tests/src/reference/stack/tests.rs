@@ -111,6 +111,21 @@ fn a_write_makes_no_block_in() {
     assert_eq!((one.ins, one.outs, one.store[8..16].to_vec()), (0, 1, vec![2; 8]));
 }
 
+/// A smallest count of Cmax is chosen by count, one above Cmax by position.
+#[test]
+fn the_victim_around_the_chain_limit() {
+    let settings = Settings { n: 3, nnew: 0, nold: 2, cmax: 2, amax: 100, b: 8, m: 64 };
+    let cases = [([1, 2, 5], 1, 2), ([1, 3, 5], 2, 2), ([1, 2, 2], 2, 2), ([9, 1, 2], 1, 1), ([1, 9, 3], 2, 2)];
+    for (counts, expected_victim, chains) in cases {
+        let mut stack = start(settings);
+        // blocks are named by their positions
+        let resident = |(p, count)| Resident { block: p as u32, count, modified: false, bytes: vec![0; 8] };
+        stack.residents = counts.into_iter().enumerate().map(resident).collect();
+        let (answers, _) = run(&mut stack, &reads(&[10]));
+        assert_eq!(answers, [word(3, expected_victim + chains * answer::CHAIN)], "{counts:?}");
+    }
+}
+
 #[test]
 fn a_count_of_65_535_stays() {
     let mut stack = start(Settings { n: 100, nnew: 0, nold: 1, cmax: 3, amax: 1_000, b: 8, m: 64 });
