@@ -13,6 +13,7 @@ mod ffi {
         pub fn fbr_sound(dir: *const u32, len: usize) -> u32;
         pub fn fbr_hash(block: u32) -> u32;
         pub fn fbr_buckets(n: u32) -> u32;
+        pub fn fbr_named(which: u32, n: u32, b: u32, m: u32, out: *mut u32, len: usize) -> usize;
     }
 }
 
@@ -60,4 +61,9 @@ pub fn hash(block: u32) -> u32 {
 /// The bucket count for `n` cache blocks; 0 for an `n` outside its limits.
 pub fn buckets(n: u32) -> u32 {
     unsafe { ffi::fbr_buckets(n) }
+}
+
+/// Named settings (0 UNIX, 1 C51, 2 CUST11) at the front of `out`, in the order of the header; how many words were written.
+pub fn named(which: u32, n: u32, b: u32, m: u32, out: &mut [u32]) -> usize {
+    unsafe { ffi::fbr_named(which, n, b, m, out.as_mut_ptr(), out.len()) }
 }

@@ -1,20 +1,14 @@
 //! Bucket counts, named settings, and the numbers 1 to 4.
 use cache_tests::reference::rng::Rng;
 use cache_tests::reference::settings::{self, Profile, MAX_AMAX, MAX_B, MAX_CMAX, MAX_M, MAX_N, PROFILES};
-use cache_tests::{buckets, Settings, BELT};
+use cache_tests::{buckets, fresh, named, Settings, BELT};
 
-mod ffi {
-    extern "C" {
-        pub fn fbr_named(which: u32, n: u32, b: u32, m: u32, out: *mut u32, len: usize) -> u32;
-        pub fn fbr_settings_number(n: u32, nnew: u32, nold: u32, cmax: u32, amax: u32, b: u32, m: u32) -> u32;
-    }
-}
-
-fn named(which: u32, n: u32, b: u32, m: u32, out: &mut [u32]) -> u32 {
-    unsafe { ffi::fbr_named(which, n, b, m, out.as_mut_ptr(), out.len()) }
-}
+/// The number that settings alone get: an empty directory is too short for legal ones.
 fn settings_number(s: Settings) -> u32 {
-    unsafe { ffi::fbr_settings_number(s.n, s.nnew, s.nold, s.cmax, s.amax, s.b, s.m) }
+    match fresh(s, &mut []) {
+        5 => 0,
+        number => number,
+    }
 }
 fn which(profile: Profile) -> u32 {
     match profile {
@@ -51,7 +45,7 @@ fn named_settings() {
             let past = [rng.word(), rng.word(), rng.word()];
             let mut out = [rng.word(); 10];
             out[7..].copy_from_slice(&past);
-            assert_eq!(named(which(profile), n, b, m, &mut out), 0);
+            assert_eq!(named(which(profile), n, b, m, &mut out), 7);
             assert_eq!(out[..7], in_order(settings::named(profile, n, b, m)), "{profile:?}, N {n}");
             assert_eq!(out[7..], past, "{profile:?}, N {n}");
             cases += 1;
@@ -67,7 +61,7 @@ fn named_settings_of_legal_numbers_are_legal() {
     for profile in PROFILES {
         for n in 1..=MAX_N {
             let mut out = [0; 7];
-            assert_eq!(named(which(profile), n, MAX_B, MAX_M, &mut out), 0);
+            assert_eq!(named(which(profile), n, MAX_B, MAX_M, &mut out), 7);
             let [n, nnew, nold, cmax, amax, b, m] = out;
             assert_eq!(settings_number(Settings { n, nnew, nold, cmax, amax, b, m }), 0, "{profile:?}, N {n}");
         }
@@ -76,12 +70,12 @@ fn named_settings_of_legal_numbers_are_legal() {
 }
 
 #[test]
-fn named_settings_declined() {
+fn named_settings_without_name_or_room() {
     let mut cases = 0;
     for which in [3, 4, 255, u32::MAX] {
         for length in [0, 6, 7, 8] {
             let mut out = vec![0xdead_beef; length];
-            assert_eq!(named(which, 100, 8, 64, &mut out), 1, "which {which}, {length} words");
+            assert_eq!(named(which, 100, 8, 64, &mut out), 0, "which {which}, {length} words");
             assert!(out.iter().all(|&w| w == 0xdead_beef));
             cases += 1;
         }
@@ -89,12 +83,12 @@ fn named_settings_declined() {
     for which in 0..3 {
         for length in 0..7 {
             let mut out = vec![0xdead_beef; length];
-            assert_eq!(named(which, 100, 8, 64, &mut out), 1, "which {which}, {length} words");
+            assert_eq!(named(which, 100, 8, 64, &mut out), 0, "which {which}, {length} words");
             assert!(out.iter().all(|&w| w == 0xdead_beef));
             cases += 1;
         }
     }
-    println!("{cases} declined calls");
+    println!("{cases} calls that wrote nothing");
 }
 
 #[test]

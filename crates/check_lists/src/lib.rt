@@ -131,7 +131,13 @@ fn list_test(d: &[u32], at: u32, n: u32, nb: u32, b: u32, budget: u32, e: u32) -
     }
     let block = check_stack::field(d, at, layout::BLOCK, e);
     if fnv::hash(block) % nb == b {
-        return absent_from(d, at, block, budget, check_stack::field(d, at, layout::NEXT_SYNONYM, e));
+        return absent_from(
+            d,
+            at,
+            block,
+            budget,
+            check_stack::field(d, at, layout::NEXT_SYNONYM, e),
+        );
     }
     false
 }

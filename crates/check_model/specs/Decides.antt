@@ -133,18 +133,37 @@ module _ (w : List ℕ) where
     residents-there l p g s d =
         let n = numbers-read w (l .xs) (l .fwd) (l .many) (l .some) (p .numbers) in
         let q = good-sound w (l .xs) (l .some) g in
-        rw (order-is w l)
-        (blocks-sound w (l .xs) (l .some) d
-        , (q .0
-        , (q .1
-        , (q .2
-        , (yes-eqb (n .sum)
-        , (sections-sound w (l .xs) 0 (l .some) s
-        , (yes-eqb (n .new)
-        , (yes-eqb (n .old)
-        , (yes-eqb {a = val w BLANK-14 + val w BLANK-15} {b = 0} (omega (arith, n .none, n .none′))
-        , (yes-leb (n .average)
-        , tt))))))))))
+        rw (order-is w l) (
+          blocks-sound w (l .xs) (l .some) d,
+          (
+            q .0,
+            (
+              q .1,
+              (
+                q .2,
+                (
+                  yes-eqb (n .sum),
+                  (
+                    sections-sound w (l .xs) 0 (l .some) s,
+                    (
+                      yes-eqb (n .new),
+                      (
+                        yes-eqb (n .old),
+                        (
+                          yes-eqb {a = val w BLANK-14 + val w BLANK-15} {b = 0} (omega (arith, n .none, n .none′)),
+                          (
+                            yes-leb (n .average),
+                            tt,
+                          ),
+                        ),
+                      ),
+                    ),
+                  ),
+                ),
+              ),
+            ),
+          ),
+        )
 
     chains-there : (l : Lists w) (p : Passed) → T (all (bucketRight w) (counting 0 nb)) → All T (chainTests w)
     unfolding chainTests settingsIn totalsIn totalOf

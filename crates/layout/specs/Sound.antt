@@ -142,6 +142,10 @@ module _ (ws : List ℕ) where
   unfolding field val
   residentAt e = record { block = field BLOCK e; count = field COUNT e; modified = eqb (field MODIFIED e) 1; held = e }
 
+  -- read off along the stack links
+  abbrev pub residentsIn : List (Resident ℕ)
+  residentsIn = map residentAt order
+
   unfoldable pub view : List ℕ → Stack ℕ
   unfolding settingsIn totalsIn order residentAt val
-  view store = record { settings = settingsIn; residents = map residentAt order; store = store; totals = totalsIn }
+  view store = record { settings = settingsIn; residents = residentsIn; store = store; totals = totalsIn }

@@ -15,7 +15,7 @@ use Rattle.settings.specs.NumbersLaws.{LegalSettings}
 use Rattle.stack.specs.Recency.{Resident}
 use Rattle.stack.specs.Stack.{Totals}
 use Rattle.layout.specs.Addresses.{CACHE-BLOCKS, NEW-BLOCKS, OLD-BLOCKS, CHAIN-LIMIT, AVERAGE-LIMIT, BLOCK-SIZE, STORE-BLOCKS, SUM, READS, WRITES, INS, OUTS, BLOCK, COUNT, MODIFIED}
-use Rattle.layout.specs.Sound.{settingsIn, totalAt, totalsIn, field, order, unusedEntries, sound, residentAt}
+use Rattle.layout.specs.Sound.{settingsIn, totalAt, totalsIn, field, order, unusedEntries, sound, residentAt, residentsIn}
 use Rattle.layout.specs.SoundLaws.{sound-legal}
 use Rattle.linkage.specs.Fields.{Fields, header, View, view-get, inHeader}
 use Rattle.linkage.specs.WellLinked.{WellLinked, total}
@@ -35,7 +35,7 @@ pub record Returned (before after : List ℕ) (D : Fields) (residents unused : L
   pub settings-kept : settingsIn after ≡ settingsIn before
   pub order-is : order after ≡ residents
   pub unused-is : unusedEntries after ≡ unused
-  pub residents-are : map (residentAt after) (order after) ≡ map (resident D) residents
+  pub residents-are : residentsIn after ≡ map (resident D) residents
   pub totals-are : totalsIn after ≡ totalsOf D
   pub past : drop (directoryLength (settingsIn before)) after ≡ drop (directoryLength (settingsIn before)) before
 

@@ -36,7 +36,9 @@ fn numbers_ok(
     if words::value(d, layout::NEW_BOUNDARY) != check_stack::at_position(d, at, count, head, new) {
         return false;
     }
-    if words::value(d, layout::OLD_BOUNDARY) != check_stack::at_position(d, at, count, head, n - old) {
+    if words::value(d, layout::OLD_BOUNDARY)
+        != check_stack::at_position(d, at, count, head, n - old)
+    {
         return false;
     }
     if words::value(d, layout::BLANK_14) != 0 {
@@ -55,7 +57,9 @@ fn totals_ok(d: &[u32], at: u32, count: u32, head: u32) -> bool
     if total(d, layout::INS) > total(d, layout::READS) {
         return false;
     }
-    if total(d, layout::OUTS) + check_stack::sum(d, at, layout::MODIFIED, count, head) > total(d, layout::WRITES) {
+    if total(d, layout::OUTS) + check_stack::sum(d, at, layout::MODIFIED, count, head)
+        > total(d, layout::WRITES)
+    {
         return false;
     }
     true

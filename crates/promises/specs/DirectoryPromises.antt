@@ -1,0 +1,74 @@
+-- What the directory promises the cache, operation by operation: from the words before to the words after. The cache relies on these
+-- alone. Every promise gives the residents with their entries, read off along the stack links, by the recency stack's definitions;
+-- settings, totals and the words past the directory; that the words are sound again; and how many link words changed at most.
+-- Statements only.
+use Prim.Native.Nat.{ℕ, _+_, _≤_, _<_, _^_}
+use mathlib.Core.Path.{_≡_}
+use mathlib.Core.Logic.{_≢_}
+use mathlib.Core.Bool.{Bool, true, false, not}
+use mathlib.Core.Option.{Option, none, some}
+use mathlib.Core.List.{List, map}
+use lib.ListN.{length, drop}
+use lib.Dec.{T, eqb}
+use Rattle.basics.specs.Basics.{if_then_else_}
+use Rattle.words.specs.Links.{linksChanged}
+use Rattle.settings.specs.declared.Settings.{Settings}
+use Rattle.settings.specs.Buckets.{directoryLength}
+use Rattle.stack.specs.Counts.{chains, exceeds}
+use Rattle.stack.specs.Recency.{Resident, Place, counts, cleaned, place, asked, settled, lookup, removed}
+use Rattle.stack.specs.Stack.{Totals, Answer, hit, entered, replaced, accessTotals, answering}
+use Rattle.stack.specs.Entries.{entryFor, PickAt}
+use Rattle.layout.specs.Sound.{settingsIn, totalsIn, sound, residentsIn}
+use Rattle.promises.specs.Promises.{halved}
+
+-- What every operation keeps.
+pub record Kept (before after : List ℕ) : Type 0 where
+  pub sound-after : T (sound after)
+  pub settings-kept : settingsIn after ≡ settingsIn before
+  pub past-kept : drop (directoryLength (settingsIn before)) after ≡ drop (directoryLength (settingsIn before)) before
+
+-- ---- a read or a write: a hit, a block that enters an unused entry, or a replacement
+
+-- where the block stands
+abbrev pub placeOf : List ℕ → ℕ → Place ℕ
+placeOf words block = place (settingsIn words) block (residentsIn words)
+
+-- the residents once it is at position 0, at an entry
+abbrev pub askedOf : List ℕ → ℕ → Bool → ℕ → List (Resident ℕ)
+askedOf words block written entry = asked block written entry (placeOf words block)
+
+-- the answer, by the recency stack
+abbrev pub answerOf : List ℕ → ℕ → Bool → ℕ → Answer
+answerOf words block written entry =
+    answering (chains (settingsIn words) (counts (residentsIn words))) (exceeds (settingsIn words) (counts (askedOf words block written entry))) (placeOf words block)
+
+-- The block was asked for, and is then at that entry: its own, the victim's, or an unused one.
+pub record Accessed (links : ℕ) (before : List ℕ) (block : ℕ) (written : Bool) (entry : ℕ) (answer : Answer) (after : List ℕ) : Type 0 where
+  pub kept : Kept before after
+  pub entry-is : entryFor entry (placeOf before block) ≡ entry
+  pub entry-free : PickAt (settingsIn before .n) entry (placeOf before block)
+  pub residents : residentsIn after ≡ settled (settingsIn before) (askedOf before block written entry)
+  pub totals : totalsIn after ≡ accessTotals (totalsIn before) written (placeOf before block)
+  pub answer-is : answerOf before block written entry ≡ answer
+  pub links-few : T (not (halved answer)) → linksChanged before after ≤ links
+
+-- ---- a purge
+
+pub record Purged (links : ℕ) (before : List ℕ) (block : ℕ) (modified : Bool) (after : List ℕ) : Type 0 where
+  pub kept : Kept before after
+  pub residents : residentsIn after ≡ removed block (residentsIn before)
+  pub totals : totalsIn after ≡ totalsIn before
+  pub links-few : linksChanged before after ≤ links
+
+-- ---- a resident whose bytes were written out
+
+abbrev pub cleanedAt : ℕ → List (Resident ℕ) → List (Resident ℕ)
+cleanedAt entry = map (λ x. if eqb (x .held) entry then cleaned x else x)
+
+abbrev pub oneOut : Totals → Totals
+oneOut t = record { reads = t .reads; writes = t .writes; ins = t .ins; outs = t .outs + 1 }
+
+pub record Cleaned (before : List ℕ) (entry : ℕ) (after : List ℕ) : Type 0 where
+  pub kept : Kept before after
+  pub residents : residentsIn after ≡ cleanedAt entry (residentsIn before)
+  pub totals : totalsIn after ≡ oneOut (totalsIn before)
