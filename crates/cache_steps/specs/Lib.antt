@@ -1,1 +1,17 @@
 pub mod Carried
+pub mod FrontLaws
+pub mod MovedLaws
+pub mod Carries
+pub mod Places
+pub mod Told
+pub mod AccessSteps
+pub mod PurgeStep
+pub mod FlushLists
+pub mod FlushStep
+pub mod Runs
+pub mod BatchFacts
+pub mod GivenLaws
+pub mod Accepts
+pub mod WorkLaws
+pub mod OverLaws
+pub mod TotalsLaws

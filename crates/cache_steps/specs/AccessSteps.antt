@@ -1,0 +1,201 @@
+-- A read or a write: once the directory has answered, the code moves the bytes that the answer tells, and the word is carried out.
+use Prim.Native.Nat.{ℕ, _+_, _-_, _*_, _≤_, _<_}
+use native.Mathlib.Omega.{arith}
+use mathlib.Core.Path.{_≡_, sym, ap, subst, subst₂, _∙_}
+use mathlib.Core.Bool.{Bool, true, false}
+use mathlib.Core.List.{List, []}
+use lib.ListN.{length, take}
+use lib.Dec.{T}
+use Rattle.basics.specs.Basics.{if_then_else_, blockAt, putBlock}
+use Rattle.settings.specs.declared.Settings.{Settings}
+use Rattle.stack.specs.Counts.{chains, exceeds}
+use Rattle.stack.specs.Recency.{Place, found, unused, replacing, counts, asked, settled}
+use Rattle.stack.specs.Stack.{Work, read, write, Answer, hit, entered, replaced, leaving, savedAll, present, answering, accessTotals, access, step}
+use Rattle.stack.specs.Entries.{entryBytes, entryFor, filled, entryStep, Pick}
+use Rattle.stack.specs.EntriesLaws.{Entry, entry-placed}
+use Rattle.layout.specs.Sound.{totalsIn, residentsIn, view}
+use Rattle.layout.specs.SoundLaws.{sound-residents}
+use Rattle.promises.specs.DirectoryPromises.{placeOf, Accessed}
+use Rattle.promises.specs.Demand3.{Memory}
+use Rattle.cache_steps.specs.Carried.{cacheOf, settingsOf, memory, Ready, Carried}
+use Rattle.cache_steps.specs.Carries.{cacheWith, carry}
+use Rattle.cache_steps.specs.FrontLaws.{put-own}
+use Rattle.cache_steps.specs.MovedLaws.{Stands, leaving-fit, Moved, put-moved, entry-room, saved-all, present-front, present-length}
+use Rattle.cache_steps.specs.Places.{placed-in, place-stands, store-room}
+use Rattle.cache_steps.specs.Told.{storeAfter, bytesRead, told}
+
+abbrev pub accessing : Bool → ℕ → Work
+accessing true b = write b
+accessing false b = read b
+
+module _ (m : Memory) (ready : Ready m) (b : ℕ) (written : Bool) {k e : ℕ} {answer : Answer} {d : List ℕ} (accessed : Accessed k (m .directory) b written e answer d) where
+  abbrev s : Settings
+  s = settingsOf m
+
+  abbrev q : Place ℕ
+  q = placeOf (m .directory) b
+
+  entry : Entry s e q
+  entry =
+      subst (λ x. Entry s x q) (accessed .entry-is)
+      (entry-placed s (residentsIn (m .directory)) (sound-residents (m .directory) (ready .is-sound)) e q (placed-in (m .directory) (ready .is-sound) b) (accessed .entry-free))
+
+  -- the entry is one of 1 to N, so its bytes stand in the data buffer
+  pub access-least : 1 ≤ e
+  access-least = entry .least
+
+  pub access-most : e ≤ settingsOf m .n
+  access-most = entry .most
+
+  pub access-entry : (e - 1) * settingsOf m .b + settingsOf m .b ≤ length (m .bytes)
+  access-entry = entry-room s (m .bytes) (ready .bytes-long) e access-least access-most
+
+  at-place : Stands s q
+  at-place = place-stands (m .directory) (ready .is-sound) b
+
+  module _ (inside : b < settingsOf m .m) (incoming : List ℕ) (brings : T written → length incoming ≡ settingsOf m .b) where
+    abbrev whole : ℕ → List ℕ
+    whole = entryBytes (s .b) (m .bytes)
+
+    abbrev front : ℕ → List ℕ
+    front = entryBytes (s .b) (take (s .n * s .b) (m .bytes))
+
+    -- the store and the block's bytes, and those of the fronts
+    abbrev store₁ : List ℕ
+    store₁ = savedAll whole (s .b) (leaving q) (m .store)
+
+    abbrev first-store : List ℕ
+    first-store = savedAll front (s .b) (leaving q) (take (s .m * s .b) (m .store))
+
+    abbrev bytes₁ : List ℕ
+    bytes₁ = present whole (s .b) b store₁ q
+
+    abbrev put : List ℕ
+    put = if written then incoming else bytes₁
+
+    in-store : Moved (s .m * s .b) first-store (m .store) store₁
+    in-store = saved-all s (m .bytes) (ready .bytes-long) (leaving q) (leaving-fit s q at-place) (m .store) (ready .store-long)
+
+    room-after : s .m * s .b ≤ length store₁
+    room-after = rw (in-store .same) (ready .store-long)
+
+    first-bytes : present front (s .b) b first-store q ≡ bytes₁
+    first-bytes = ap (λ x. present front (s .b) b x q) (sym (in-store .first)) ∙ present-front s (m .bytes) (ready .bytes-long) b inside store₁ room-after q at-place
+
+    put-length : length put ≡ s .b
+    put-length = go written brings
+      where
+        go : (w : Bool) → (T w → length incoming ≡ s .b) → length (if w then incoming else bytes₁) ≡ s .b
+        go true h = h tt
+        go false h = present-length s (m .bytes) (ready .bytes-long) b inside store₁ room-after q at-place
+
+    in-bytes : Moved (s .n * s .b) (putBlock (s .b) (e - 1) put (take (s .n * s .b) (m .bytes))) (m .bytes) (putBlock (s .b) (e - 1) put (m .bytes))
+    in-bytes = let h = access-least in let g = access-most in put-moved (s .b) (e - 1) (s .n) (m .bytes) (omega arith) (ready .bytes-long) put put-length
+
+    -- the machine over entries
+    abbrev Stepped : Bool → List ℕ → List ℕ → Type 0
+    Stepped w put given =
+        entryStep (cacheOf m) (accessing w b, e) incoming
+        ≡ record { after = cacheWith s d (putBlock (s .b) (e - 1) put (take (s .n * s .b) (m .bytes))) first-store; answer = answer; given = given }
+
+    stepped : (w : Bool)
+        → settled s (asked b w (entryFor e q) q) ≡ residentsIn d
+        → accessTotals (totalsIn (m .directory)) w q ≡ totalsIn d
+        → answering (chains s (counts (residentsIn (m .directory)))) (exceeds s (counts (asked b w (entryFor e q) q))) q ≡ answer
+        → Stepped w (if w then incoming else bytes₁) (if w then [] else bytes₁)
+    unfolding entryStep step access filled view
+    stepped true residents totals answers =
+        λ i. record {
+          after = record {
+            stack = record { settings = s; residents = residents i; store = first-store; totals = totals i };
+            bytes = putBlock (s .b) (accessed .entry-is i - 1) incoming (take (s .n * s .b) (m .bytes));
+          };
+          answer = answers i;
+          given = [];
+        }
+    stepped false residents totals answers =
+        λ i. record {
+          after = record {
+            stack = record { settings = s; residents = residents i; store = first-store; totals = totals i };
+            bytes = putBlock (s .b) (accessed .entry-is i - 1) (first-bytes i) (take (s .n * s .b) (m .bytes));
+          };
+          answer = answers i;
+          given = first-bytes i;
+        }
+
+    picks : (w : Bool) → Pick (cacheOf m) (accessing w b) e
+    unfolding view
+    picks true = accessed .entry-free
+    picks false = accessed .entry-free
+
+    carried-out : k ≤ 20 → Carried m (accessing written b) incoming (memory d (putBlock (s .b) (e - 1) put (m .bytes)) store₁) answer (if written then [] else bytes₁)
+    carried-out few =
+        carry m ready d (putBlock (s .b) (e - 1) put (m .bytes)) store₁ (accessed .kept) in-bytes in-store (accessing written b) incoming answer (if written then [] else bytes₁) e (picks written)
+        (stepped written
+        (ap (λ x. settled s (asked b written x q)) (accessed .entry-is) ∙ sym (accessed .residents))
+        (sym (accessed .totals))
+        (ap (λ x. answering (chains s (counts (residentsIn (m .directory)))) (exceeds s (counts (asked b written x q))) q) (accessed .entry-is) ∙ accessed .answer-is))
+        (λ bound calm. let h = accessed .links-few calm in omega arith)
+
+    -- with the bytes that the answer tells
+    pub access-carried : k ≤ 20
+        → Carried m (accessing written b) incoming
+        (memory d (putBlock (settingsOf m .b) (e - 1) (if written then incoming else bytesRead m b e answer) (m .bytes)) (storeAfter m b e answer))
+        answer (if written then [] else bytesRead m b e answer)
+    access-carried few =
+        let moves = told m b e q (accessed .entry-is) _ _ answer (accessed .answer-is) in
+        subst₂ (λ st by. Carried m (accessing written b) incoming (memory d (putBlock (s .b) (e - 1) (if written then incoming else by) (m .bytes)) st) answer (if written then [] else by))
+        (moves .0) (moves .1) (carried-out few)
+
+-- ---- the victim: a block of the store
+
+victim-at : (s : Settings) (q : Place ℕ) → Stands s q → (n : ℕ) (h : Bool) (v looked : ℕ) (out : Bool) → answering n h q ≡ replaced v looked out → v < s .m
+unfolding answering
+victim-at s (found x l) t n h v looked out is = let z : _≡_ {A = ℕ} 0 1 = cc in absurd (omega arith)
+victim-at s (unused l) t n h v looked out is = let z : _≡_ {A = ℕ} 0 1 = cc in absurd (omega arith)
+victim-at s (replacing x l) t n h v looked out is = let same : x .block ≡ v = cc in let g = t .stored in omega arith
+
+module _ (m : Memory) (ready : Ready m) (b : ℕ) (written : Bool) where
+  pub victim-below : {k e v n : ℕ} {out : Bool} {d : List ℕ} → Accessed k (m .directory) b written e (replaced v n out) d → v < settingsOf m .m
+  victim-below {v = v} {n = n} {out = out} accessed = victim-at (settingsOf m) (placeOf (m .directory) b) (place-stands (m .directory) (ready .is-sound) b) _ _ v n out (accessed .answer-is)
+
+  pub victim-block : {k e v n : ℕ} {out : Bool} {d : List ℕ} → Accessed k (m .directory) b written e (replaced v n out) d → v * settingsOf m .b + settingsOf m .b ≤ length (m .store)
+  victim-block {v = v} accessed = store-room m ready v (victim-below accessed)
+
+-- ---- the six cases
+
+module _ (m : Memory) (ready : Ready m) (b : ℕ) (inside : b < settingsOf m .m) (incoming : List ℕ) where
+  abbrev B : ℕ
+  B = settingsOf m .b
+
+  -- the bytes that a hit gives stand in the data buffer already
+  pub hit-read : {k e c : ℕ} {h : Bool} {d : List ℕ} → Accessed k (m .directory) b false e (hit c h) d → k ≤ 20
+      → Carried m (read b) incoming (memory d (m .bytes) (m .store)) (hit c h) (blockAt (settingsOf m .b) (e - 1) (m .bytes))
+  hit-read {e = e} {c = c} {h = h} {d = d} accessed few =
+      subst (λ by. Carried m (read b) incoming (memory d by (m .store)) (hit c h) (blockAt B (e - 1) (m .bytes))) (put-own B (e - 1) (m .bytes))
+      (access-carried m ready b false accessed inside incoming (λ t. absurd t) few)
+
+  pub enter-read : {k e : ℕ} {h : Bool} {d : List ℕ} → Accessed k (m .directory) b false e (entered h) d → k ≤ 20
+      → Carried m (read b) incoming (memory d (putBlock (settingsOf m .b) (e - 1) (blockAt (settingsOf m .b) b (m .store)) (m .bytes)) (m .store)) (entered h) (blockAt (settingsOf m .b) b (m .store))
+  enter-read accessed few = access-carried m ready b false accessed inside incoming (λ t. absurd t) few
+
+  -- Once the victim is written out, the block's bytes are those of the store after that.
+  pub replace-read : {k e v n : ℕ} {out : Bool} {d : List ℕ} (accessed : Accessed k (m .directory) b false e (replaced v n out) d) → k ≤ 20
+      → (let store = if out then putBlock (settingsOf m .b) v (blockAt (settingsOf m .b) (e - 1) (m .bytes)) (m .store) else m .store in
+      Carried m (read b) incoming (memory d (putBlock (settingsOf m .b) (e - 1) (blockAt (settingsOf m .b) b store) (m .bytes)) store) (replaced v n out) (blockAt (settingsOf m .b) b store))
+  replace-read accessed few = access-carried m ready b false accessed inside incoming (λ t. absurd t) few
+
+  module _ (brings : length incoming ≡ settingsOf m .b) where
+    pub hit-write : {k e c : ℕ} {h : Bool} {d : List ℕ} → Accessed k (m .directory) b true e (hit c h) d → k ≤ 20
+        → Carried m (write b) incoming (memory d (putBlock (settingsOf m .b) (e - 1) incoming (m .bytes)) (m .store)) (hit c h) []
+    hit-write accessed few = access-carried m ready b true accessed inside incoming (λ t. brings) few
+
+    pub enter-write : {k e : ℕ} {h : Bool} {d : List ℕ} → Accessed k (m .directory) b true e (entered h) d → k ≤ 20
+        → Carried m (write b) incoming (memory d (putBlock (settingsOf m .b) (e - 1) incoming (m .bytes)) (m .store)) (entered h) []
+    enter-write accessed few = access-carried m ready b true accessed inside incoming (λ t. brings) few
+
+    pub replace-write : {k e v n : ℕ} {out : Bool} {d : List ℕ} → Accessed k (m .directory) b true e (replaced v n out) d → k ≤ 20
+        → Carried m (write b) incoming
+        (memory d (putBlock (settingsOf m .b) (e - 1) incoming (m .bytes)) (if out then putBlock (settingsOf m .b) v (blockAt (settingsOf m .b) (e - 1) (m .bytes)) (m .store) else m .store))
+        (replaced v n out) []
+    replace-write accessed few = access-carried m ready b true accessed inside incoming (λ t. brings) few

@@ -1,0 +1,65 @@
+-- How a word is shown to be carried out: an operation of the directory that kept what it promises, beside data and store whose fronts
+-- became those of the machine over entries.
+use Prim.Native.Nat.{ℕ, _*_, _≤_}
+use mathlib.Core.Path.{_≡_, sym, ap, ap₂, _∙_}
+use mathlib.Core.Bool.{not}
+use mathlib.Core.List.{List}
+use lib.ListN.{length, take}
+use lib.Dec.{T}
+use Rattle.words.specs.Links.{linksChanged}
+use Rattle.settings.specs.declared.Settings.{Settings}
+use Rattle.stack.specs.Stack.{Work, Answer}
+use Rattle.stack.specs.Entries.{Cache, entryStep, Pick}
+use Rattle.layout.specs.Sound.{totalsIn, residentsIn, view}
+use Rattle.promises.specs.Promises.{halved}
+use Rattle.promises.specs.DirectoryPromises.{Kept}
+use Rattle.promises.specs.Demand3.{Memory}
+use Rattle.cache_steps.specs.Carried.{cacheOf, settingsOf, memory, Ready, bounded, Carried}
+use Rattle.cache_steps.specs.MovedLaws.{Moved}
+
+-- the cache with these settings, the residents and totals of a directory, and these fronts of data and store
+abbrev pub cacheWith : Settings → List ℕ → List ℕ → List ℕ → Cache
+cacheWith s directory bytes store =
+    record {
+      stack = record { settings = s; residents = residentsIn directory; store = store; totals = totalsIn directory };
+      bytes = bytes;
+    }
+
+module _ (m : Memory) (ready : Ready m) (directory bytes store : List ℕ) (kept : Kept (m .directory) directory) where
+  abbrev s : Settings
+  s = settingsOf m
+
+  pub ready-after : length bytes ≡ length (m .bytes) → length store ≡ length (m .store) → Ready (memory directory bytes store)
+  ready-after e e′ =
+      record {
+        is-sound = kept .sound-after;
+        bytes-long = rw (kept .settings-kept, e) (ready .bytes-long);
+        store-long = rw (kept .settings-kept, e′) (ready .store-long);
+      }
+
+  -- settings that were kept may stand for those after
+  cache-after : cacheWith s directory (take (s .n * s .b) bytes) (take (s .m * s .b) store) ≡ cacheOf (memory directory bytes store)
+  unfolding view
+  cache-after = ap (λ (t : Settings). cacheWith t directory (take (t .n * t .b) bytes) (take (t .m * t .b) store)) (sym (kept .settings-kept))
+
+  module _ {first-bytes first-store : List ℕ} (in-bytes : Moved (s .n * s .b) first-bytes (m .bytes) bytes) (in-store : Moved (s .m * s .b) first-store (m .store) store) where
+    pub carry : (w : Work) (incoming : List ℕ) (answer : Answer) (given : List ℕ) (pick : ℕ) → Pick (cacheOf m) w pick
+        → entryStep (cacheOf m) (w, pick) incoming ≡ record { after = cacheWith (settingsOf m) directory first-bytes first-store; answer = answer; given = given }
+        → (T (bounded w) → T (not (halved answer)) → linksChanged (m .directory) directory ≤ 20)
+        → Carried m w incoming (memory directory bytes store) answer given
+    carry w incoming answer given pick picked step-is links =
+        record {
+          pick = pick;
+          picked = picked;
+          step-is =
+              step-is
+              ∙ ap (λ (c : Cache). record { after = c; answer = answer; given = given }) (sym (ap₂ (cacheWith s directory) (in-bytes .first) (in-store .first)) ∙ cache-after);
+          ready = ready-after (in-bytes .same) (in-store .same);
+          settings-kept = kept .settings-kept;
+          words-past = kept .past-kept;
+          bytes-past = in-bytes .past;
+          store-past = in-store .past;
+          bytes-same = in-bytes .same;
+          store-same = in-store .same;
+          links-few = links;
+        }

@@ -1,0 +1,107 @@
+-- Bytes moved between data and store: of buffers that are longer than N or M blocks, only the fronts matter, and what follows stays.
+use Prim.Native.Nat.{ℕ, _+_, _-_, _*_, _≤_, _<_}
+use native.Mathlib.Omega.{arith}
+use mathlib.Core.Path.{_≡_, refl, ap, _∙_}
+use mathlib.Core.Bool.{Bool, true, false}
+use mathlib.Core.List.{List, [], _∷_}
+use lib.ListN.{length, take, drop}
+use Rattle.basics.specs.Basics.{All, if_then_else_, putBlock}
+use Rattle.settings.specs.declared.Settings.{Settings}
+use Rattle.stack.specs.BufferLaws.{length-blockAt, length-putBlock}
+use Rattle.stack.specs.Recency.{Resident, Place, found, unused, replacing}
+use Rattle.stack.specs.Stack.{leaving, saved, savedAll, present}
+use Rattle.stack.specs.Entries.{entryBytes}
+use Rattle.stack.specs.EntriesLaws.{Fit}
+use Rattle.cache_steps.specs.FrontLaws.{block-room, block-front, put-front, put-past}
+
+-- the resident that a place names, if it names one, has an entry within 1 to N and a block below M
+abbrev pub Stands : Settings → Place ℕ → Type 0
+Stands s (found x l) = Fit s x
+Stands s (unused l) = Unit {0}
+Stands s (replacing v l) = Fit s v
+
+pub leaving-fit : (s : Settings) (q : Place ℕ) → Stands s q → All (Fit s) (leaving q)
+unfolding leaving
+leaving-fit s (found x l) t = tt
+leaving-fit s (unused l) t = tt
+leaving-fit s (replacing v l) t = (t, tt)
+
+-- A buffer that came of another: its front of that size, what follows it, and its length.
+pub record Moved (size : ℕ) (front before after : List ℕ) : Type 0 where
+  pub first : take size after ≡ front
+  pub past : drop size after ≡ drop size before
+  pub same : length after ≡ length before
+
+pub unmoved : (size : ℕ) (buffer : List ℕ) → Moved size (take size buffer) buffer buffer
+unmoved size buffer = record { first = refl; past = refl; same = refl }
+
+-- a block put within the first n
+pub put-moved : (B i n : ℕ) (buffer : List ℕ) → i < n → n * B ≤ length buffer → (bytes : List ℕ) → length bytes ≡ B
+    → Moved (n * B) (putBlock B i bytes (take (n * B) buffer)) buffer (putBlock B i bytes buffer)
+put-moved B i n buffer h long bytes sized =
+    record {
+      first = put-front B i n buffer h long bytes sized;
+      past = put-past B i n buffer h long bytes sized;
+      same = length-putBlock B i bytes buffer sized (block-room B i n buffer h long);
+    }
+
+module _ (s : Settings) (bytes : List ℕ) (long : s .n * s .b ≤ length bytes) where
+  abbrev B : ℕ
+  B = s .b
+
+  -- an entry's bytes, whole data buffer or its front
+  abbrev whole : ℕ → List ℕ
+  whole = entryBytes B bytes
+
+  abbrev front : ℕ → List ℕ
+  front = entryBytes B (take (s .n * s .b) bytes)
+
+  pub entry-room : (e : ℕ) → 1 ≤ e → e ≤ s .n → (e - 1) * s .b + s .b ≤ length bytes
+  entry-room e h g = block-room B (e - 1) (s .n) bytes (omega arith) long
+
+  entry-length : (e : ℕ) → 1 ≤ e → e ≤ s .n → length (whole e) ≡ B
+  entry-length e h g = length-blockAt B (e - 1) bytes (entry-room e h g)
+
+  entry-front : (e : ℕ) → 1 ≤ e → e ≤ s .n → front e ≡ whole e
+  entry-front e h g = block-front B (e - 1) (s .n) bytes (omega arith) long
+
+  -- ---- residents written out
+
+  module _ (x : Resident ℕ) (fit : Fit s x) (store : List ℕ) (room : s .m * s .b ≤ length store) where
+    saved-one : Moved (s .m * s .b) (saved front B x (take (s .m * s .b) store)) store (saved whole B x store)
+    unfolding saved
+    saved-one = go (x .modified)
+      where
+        go : (t : Bool) → Moved (s .m * s .b) (if t then putBlock B (x .block) (front (x .held)) (take (s .m * s .b) store) else take (s .m * s .b) store) store
+            (if t then putBlock B (x .block) (whole (x .held)) store else store)
+        go true = rw (entry-front (x .held) (fit .least) (fit .most)) (put-moved B (x .block) (s .m) store (fit .stored) room (whole (x .held)) (entry-length (x .held) (fit .least) (fit .most)))
+        go false = unmoved (s .m * s .b) store
+
+  pub saved-all : (l : List (Resident ℕ)) → All (Fit s) l → (store : List ℕ) → s .m * s .b ≤ length store
+      → Moved (s .m * s .b) (savedAll (entryBytes (s .b) (take (s .n * s .b) bytes)) (s .b) l (take (s .m * s .b) store)) store (savedAll (entryBytes (s .b) bytes) (s .b) l store)
+  unfolding savedAll
+  saved-all [] a store room = unmoved (s .m * s .b) store
+  saved-all (x ∷ l) a store room =
+      let one = saved-one x (a .0) store room in
+      let rest = saved-all l (a .1) (saved whole B x store) (let e = one .same in omega arith) in
+      record {
+        first = rest .first ∙ ap (savedAll front B l) (one .first);
+        past = rest .past ∙ one .past;
+        same = rest .same ∙ one .same;
+      }
+
+  -- ---- the bytes of a block: its resident's, or the store's
+
+  module _ (b : ℕ) (inside : b < s .m) (store : List ℕ) (room : s .m * s .b ≤ length store) where
+    pub present-front : (q : Place ℕ) → Stands s q
+        → present (entryBytes (s .b) (take (s .n * s .b) bytes)) (s .b) b (take (s .m * s .b) store) q ≡ present (entryBytes (s .b) bytes) (s .b) b store q
+    unfolding present
+    present-front (found x l) t = entry-front (x .held) (t .least) (t .most)
+    present-front (unused l) t = block-front B b (s .m) store inside room
+    present-front (replacing v l) t = block-front B b (s .m) store inside room
+
+    pub present-length : (q : Place ℕ) → Stands s q → length (present (entryBytes (s .b) bytes) (s .b) b store q) ≡ s .b
+    unfolding present
+    present-length (found x l) t = entry-length (x .held) (t .least) (t .most)
+    present-length (unused l) t = length-blockAt B b store (block-room B b (s .m) store inside room)
+    present-length (replacing v l) t = length-blockAt B b store (block-room B b (s .m) store inside room)

@@ -1,0 +1,36 @@
+-- Work words that are not invalid, by their kind, as the loop over them tells them apart.
+use Prim.Native.Nat.{ℕ, _/_, _%_, _^_, _<_}
+use native.Mathlib.Omega.{arith}
+use mathlib.Core.Path.{_≡_, refl}
+use mathlib.Core.Logic.{_≢_}
+use mathlib.Core.Bool.{Bool, true, false, _&&_}
+use lib.Dec.{T, ltb, eqb}
+use borrow.Author.Tests.{ne-eqb}
+use mir.Facts.{ltb-yes}
+use Rattle.basics.specs.Basics.{if_then_else_}
+use Rattle.settings.specs.declared.Settings.{Settings}
+use Rattle.stack.specs.Stack.{Work, read, write, purge, flush, invalid}
+use Rattle.stack.specs.Batch.{work, isInvalid}
+
+-- a word that is x where its test passes, else invalid
+valid-is : (x : Work) (t : Bool) → isInvalid (if t then x else invalid) ≡ 0 → ((if t then x else invalid) ≡ x) × T t
+valid-is x true e = (refl, tt)
+valid-is x false e = absurd (omega arith)
+
+module _ (s : Settings) (w : ℕ) where
+  pub work-read : w / 2 ^ 28 ≡ 1 → isInvalid (work s w) ≡ 0 → (work s w ≡ read (w % 2 ^ 28)) × (w % 2 ^ 28 < s .m)
+  unfolding work
+  work-read kind = rw kind (λ e. let g = valid-is (read (w % 2 ^ 28)) (ltb (w % 2 ^ 28) (s .m)) e in (g .0, ltb-yes (g .1)))
+
+  pub work-write : w / 2 ^ 28 ≡ 2 → isInvalid (work s w) ≡ 0 → (work s w ≡ write (w % 2 ^ 28)) × (w % 2 ^ 28 < s .m)
+  unfolding work
+  work-write kind = rw kind (λ e. let g = valid-is (write (w % 2 ^ 28)) (ltb (w % 2 ^ 28) (s .m)) e in (g .0, ltb-yes (g .1)))
+
+  pub work-purge : w / 2 ^ 28 ≡ 3 → isInvalid (work s w) ≡ 0 → (work s w ≡ purge (w % 2 ^ 28)) × (w % 2 ^ 28 < s .m)
+  unfolding work
+  work-purge kind = rw kind (λ e. let g = valid-is (purge (w % 2 ^ 28)) (ltb (w % 2 ^ 28) (s .m)) e in (g .0, ltb-yes (g .1)))
+
+  -- what is none of these
+  pub work-flush : w / 2 ^ 28 ≢ 1 → w / 2 ^ 28 ≢ 2 → w / 2 ^ 28 ≢ 3 → isInvalid (work s w) ≡ 0 → work s w ≡ flush
+  unfolding work
+  work-flush a b c = rw (ne-eqb (w / 2 ^ 28) 1 a, ne-eqb (w / 2 ^ 28) 2 b, ne-eqb (w / 2 ^ 28) 3 c) (λ e. valid-is flush (eqb (w / 2 ^ 28) 4 && eqb (w % 2 ^ 28) 0) e .0)

@@ -1,0 +1,85 @@
+-- What asking for a block comes to, in a sound directory. Assumes nothing.
+use Prim.Native.Nat.{ℕ, _≤_, _<_}
+use mathlib.Core.Path.{_≡_, refl, _∙_, sym, ap}
+use mathlib.Core.List.{List, [], _∷_, _++_, map}
+use mathlib.Core.Option.{none, some}
+use native.Mathlib.Omega.{arith}
+use lib.Dec.{ltb}
+use lib.ListN.{length, getElem?, length-map}
+use borrow.Author.Tests.{lt-ltb, le-ltb}
+use Rattle.basics.specs.AllLaws.{all-map}
+use Rattle.basics.specs.Basics.{if_then_else_, without}
+use Rattle.basics.specs.TestLaws.{if-yes, if-no}
+use Rattle.settings.specs.declared.Settings.{Settings}
+use Rattle.stack.specs.Counts.{isNew, victim}
+use Rattle.stack.specs.Recency.{Resident, found, unused, replacing, counts, raise, replacingAt, foundAt, place, lookup, removed}
+use Rattle.layout.specs.Addresses.{BLOCK, COUNT}
+use Rattle.linkage.specs.Fields.{Shape, Fields}
+use Rattle.linkage.specs.WellLinked.{WellLinked, Entry}
+use Rattle.operations.specs.Enter.{NoneHas}
+use Rattle.operations.specs.Residents.{resident, residentsOf, elem-here, elem-none, without-here, Missing, alive, position-here, position-none}
+
+pub missing : (s : Shape) (D : Fields) (residents free : List ℕ) (n : ℕ) → WellLinked s D residents free → NoneHas s D n → Missing D n residents
+missing s D residents free n g a = all-map (λ x. Entry s x × (1 ≤ D COUNT x)) (λ x. ¬ (D BLOCK x ≡ n)) residents (λ x h. a x (h .0) (h .1)) (alive s D residents free g)
+
+-- ---- a block that a resident has
+
+module _ (s : Shape) (D : Fields) (above : List ℕ) (e : ℕ) (below free : List ℕ) (g : WellLinked s D (above ++ (e ∷ below)) free) where
+  abbrev l : List (Resident ℕ)
+  l = residentsOf D (above ++ (e ∷ below))
+
+  pub place-hit : (t : Settings) → place t (D BLOCK e) (residentsOf D (above ++ (e ∷ below))) ≡ found (if isNew t (length above) then resident D e else raise (resident D e)) (residentsOf D (above ++ below))
+  unfolding place foundAt
+  place-hit t =
+      ap (λ (p : ℕ). foundAt t p l (getElem? l p)) (position-here s D above e below free g)
+      ∙ ap (foundAt t (length above) l) (elem-here (resident D) above e below)
+      ∙ ap (found (if isNew t (length above) then resident D e else raise (resident D e))) (without-here (resident D) above e below)
+
+  pub lookup-here : lookup (D BLOCK e) (residentsOf D (above ++ (e ∷ below))) ≡ some (resident D e)
+  unfolding lookup
+  lookup-here = ap (getElem? l) (position-here s D above e below free g) ∙ elem-here (resident D) above e below
+
+  pub removed-here : removed (D BLOCK e) (residentsOf D (above ++ (e ∷ below))) ≡ residentsOf D (above ++ below)
+  unfolding removed
+  removed-here =
+      ap (λ (p : ℕ). without p l) (position-here s D above e below free g) ∙ without-here (resident D) above e below
+
+-- ---- a block that none has
+
+pub lookup-none : (D : Fields) (n : ℕ) (residents : List ℕ) → Missing D n residents → lookup n (residentsOf D residents) ≡ none
+unfolding lookup
+lookup-none D n residents a = ap (getElem? (residentsOf D residents)) (position-none D n residents a) ∙ elem-none (resident D) residents
+
+without-end : (r : ℕ → Resident ℕ) (residents : List ℕ) → without (length residents) (map r residents) ≡ map r residents
+without-end r [] = refl
+without-end r (x ∷ residents) = ap (λ (t : List (Resident ℕ)). r x ∷ t) (without-end r residents)
+
+pub removed-none : (D : Fields) (n : ℕ) (residents : List ℕ) → Missing D n residents → removed n (residentsOf D residents) ≡ residentsOf D residents
+unfolding removed
+removed-none D n residents a = ap (λ (p : ℕ). without p (residentsOf D residents)) (position-none D n residents a) ∙ without-end (resident D) residents
+
+module _ (t : Settings) (D : Fields) (n : ℕ) where
+  pub place-none : (residents : List ℕ) → Missing D n residents → place t n (residentsOf D residents) ≡ foundAt t (length residents) (residentsOf D residents) none
+  unfolding place
+  place-none residents a =
+      ap (λ (p : ℕ). foundAt t p (residentsOf D residents) (getElem? (residentsOf D residents) p)) (position-none D n residents a)
+      ∙ ap (foundAt t (length residents) (residentsOf D residents)) (elem-none (resident D) residents)
+
+  pub place-unused : (residents : List ℕ) → Missing D n residents → length residents < t .n → place t n (residentsOf D residents) ≡ unused (residentsOf D residents)
+  unfolding foundAt
+  place-unused residents a h =
+      let l = residentsOf D residents in
+      let q : length l ≡ length residents = length-map residents (resident D) in
+      place-none residents a ∙ if-yes (ltb (length l) (t .n)) (unused l) (replacingAt (victim t (counts l)) l (getElem? l (victim t (counts l)))) (rw (lt-ltb (length l) (t .n) (omega arith)) tt)
+
+  pub place-replacing : (above : List ℕ) (e : ℕ) (below : List ℕ) → Missing D n (above ++ (e ∷ below)) → length (above ++ (e ∷ below)) ≡ t .n → length above ≡ victim t (counts (residentsOf D (above ++ (e ∷ below))))
+      → place t n (residentsOf D (above ++ (e ∷ below))) ≡ replacing (resident D e) (residentsOf D (above ++ below))
+  unfolding foundAt replacingAt
+  place-replacing above e below a h v =
+      let l = residentsOf D (above ++ (e ∷ below)) in
+      let q : length l ≡ length (above ++ (e ∷ below)) = length-map (above ++ (e ∷ below)) (resident D) in
+      place-none (above ++ (e ∷ below)) a
+      ∙ if-no (ltb (length l) (t .n)) (unused l) (replacingAt (victim t (counts l)) l (getElem? l (victim t (counts l)))) (rw (le-ltb (length l) (t .n) (omega arith)) tt)
+      ∙ ap (λ (p : ℕ). replacingAt p l (getElem? l p)) (sym v)
+      ∙ ap (replacingAt (length above) l) (elem-here (resident D) above e below)
+      ∙ ap (replacing (resident D e)) (without-here (resident D) above e below)

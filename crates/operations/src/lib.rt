@@ -1,0 +1,1 @@
+// What each operation keeps: specs/.
