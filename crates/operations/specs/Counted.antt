@@ -7,15 +7,13 @@ use native.Mathlib.Omega.{arith}
 use Rattle.basics.specs.Basics.{if_then_else_, bit}
 use Rattle.basics.specs.Basics as basics
 use Rattle.stack.specs.Recency.{Resident, Place, found, unused, replacing}
-use Rattle.stack.specs.Stack.{Totals, misses, leaving, marks}
+use Rattle.stack.specs.Stack.{Totals, accessTotals, misses, leaving, marks}
 use Rattle.layout.specs.Addresses.{READS, WRITES, INS, OUTS}
+pub use Rattle.linkage.specs.Return.{totalsOf}
 use Rattle.linkage.specs.Fields.{Fields, inHeader}
 use Rattle.linkage.specs.WellLinked.{total}
 use Rattle.operations.specs.Totals.{read-total, write-total, in-total, out-total, raiseTotal}
 use Rattle.operations.specs.Miss.{accessD, missD, outIf}
-
-abbrev pub totalsOf : Fields → Totals
-totalsOf D = record { reads = total D (inHeader READS); writes = total D (inHeader WRITES); ins = total D (inHeader INS); outs = total D (inHeader OUTS) }
 
 -- each total raised
 abbrev pub raisedBy : Totals → ℕ → ℕ → ℕ → ℕ → Totals
@@ -23,7 +21,7 @@ raisedBy t reads writes ins outs = record { reads = t .reads + reads; writes = t
 
 -- those of the stack once a block was asked for, whose place is this
 abbrev pub totalsAfter : Bool → Place ℕ → Totals → Totals
-totalsAfter written q t = raisedBy t (bit (not written)) (bit written) (if written then 0 else misses q) (marks (leaving q))
+totalsAfter written q t = accessTotals t written q
 
 pub same-totals : (a b c d a′ b′ c′ d′ : ℕ) → a ≡ a′ → b ≡ b′ → c ≡ c′ → d ≡ d′ → _≡_ {A = Totals} (record { reads = a; writes = b; ins = c; outs = d }) (record { reads = a′; writes = b′; ins = c′; outs = d′ })
 same-totals a b c d a′ b′ c′ d′ p q r o = λ i. record { reads = p i; writes = q i; ins = r i; outs = o i }

@@ -49,3 +49,4 @@ pub mod MissStep
 pub mod WordSteps
 pub mod WordBounds
 pub mod WordPlaces
+pub mod SoundWords

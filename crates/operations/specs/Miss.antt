@@ -1,5 +1,5 @@
 -- A block that no resident has is read or written: the totals, then the entry or the replacement. Assumes nothing.
-use Prim.Native.Nat.{ℕ, suc, _+_, _*_, _<_}
+use Prim.Native.Nat.{ℕ, suc, _+_, _*_, _<_, _-_, _^_}
 use mathlib.Core.Path.{_≡_, refl}
 use mathlib.Core.Bool.{Bool, true, false}
 use mathlib.Core.List.{List, _∷_, _++_}
@@ -9,6 +9,7 @@ use borrow.Author.Tests.{eqb-true}
 use Rattle.basics.specs.Basics.{pick, bit}
 use Rattle.layout.specs.Addresses.{SUM, HEAD, TAIL, READS, WRITES, INS, OUTS, BLOCK, MODIFIED}
 use Rattle.linkage.specs.Fields.{Shape, base, Fields, header, inHeader}
+use Rattle.linkage.specs.WellLinked.{total}
 use Rattle.word_ops.specs.Enter.{entered, replaced}
 use Rattle.word_ops.specs.Totals.{totalRaised, accessCounted, inCounted, outCounted}
 use Rattle.operations.specs.Directory.{Directory}
@@ -39,17 +40,17 @@ outIf false D = D
 
 -- the totals of reads and writes have room for one more
 abbrev pub Countable : Fields → Type 0
-Countable D = (D (inHeader (READS + 1)) 0 < 268435455) × (D (inHeader (WRITES + 1)) 0 < 268435455)
+Countable D = (total D (inHeader READS) < 2 ^ 56 - 1) × (total D (inHeader WRITES) < 2 ^ 56 - 1)
 
 module _ (s : Shape) (w : List ℕ) (D : Fields) (residents unused : List ℕ) (some : Countable D) (g : Directory s w D residents unused) where
   small : (i : ℕ) → i < 24 → ¬ (i ≡ HEAD) → ¬ (i ≡ TAIL) → D (inHeader i) 0 < 268435456
   small i h1 h2 h3 = g .view .small (inHeader i) 0 i (header refl refl h1 h2 h3)
 
-  ins : D (inHeader (INS + 1)) 0 < 268435455
-  ins = omega (arith, some .0, g .linked .flags .in-read, small READS (omega arith) (omega arith) (omega arith))
+  ins : total D (inHeader INS) < 2 ^ 56 - 1
+  ins = omega (arith, some .0, g .linked .flags .in-read)
 
-  pub outs : D (inHeader (OUTS + 1)) 0 < 268435455
-  outs = omega (arith, some .1, g .linked .flags .out-written, small WRITES (omega arith) (omega arith) (omega arith))
+  pub outs : total D (inHeader OUTS) < 2 ^ 56 - 1
+  outs = omega (arith, some .1, g .linked .flags .out-written)
 
   pub access-sound : (written : Bool) → Directory s (accessCounted written w) (accessD written D) residents unused
   unfolding accessCounted

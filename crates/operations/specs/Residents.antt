@@ -14,6 +14,7 @@ use Rattle.links.specs.All.{off-all, all-here}
 use Rattle.settings.specs.declared.Settings.{Settings}
 use Rattle.stack.specs.Recency.{Resident, blocks, counts, position}
 use Rattle.layout.specs.Addresses.{BLOCK, COUNT, MODIFIED}
+pub use Rattle.linkage.specs.Return.{resident}
 use Rattle.linkage.specs.Fields.{Shape, Fields}
 use Rattle.linkage.specs.WellLinked.{WellLinked, Entry}
 
@@ -24,8 +25,6 @@ pub record Of (t : Settings) (s : Shape) : Type 0 where
   pub old-is : t .nold + s .old ≡ t .n
   pub cmax-is : t .cmax ≡ s .cmax
 
-abbrev pub resident : Fields → ℕ → Resident ℕ
-resident D e = record { block = D BLOCK e; count = D COUNT e; modified = eqb (D MODIFIED e) 1; held = e }
 
 abbrev pub residentsOf : Fields → List ℕ → List (Resident ℕ)
 residentsOf D residents = map (resident D) residents

@@ -1,5 +1,5 @@
 -- A total goes up by one, and the directory stays sound. Assumes nothing.
-use Prim.Native.Nat.{ℕ, _+_, _*_, _≤_, _<_}
+use Prim.Native.Nat.{ℕ, _+_, _*_, _≤_, _<_, _-_, _^_}
 use mathlib.Core.Path.{_≡_, refl}
 use mathlib.Core.Bool.{Bool, true, false}
 use mathlib.Core.List.{List}
@@ -23,7 +23,7 @@ raiseTotal D low =
     let b = eqb (D k 0) 268435455 in
     setF (setF D k (pick b (λ _. 0) (λ _. D k 0 + 1))) l (pick b (λ _. D l 0 + 1) (D l))
 
-view-raised : (s : Shape) (w : List ℕ) (D : Fields) (i : ℕ) → View s w D → i + 1 < 24 → 15 < i → kind (inHeader i) ≡ 1 → kind (inHeader (i + 1)) ≡ 1 → ((f : ℕ → ℕ) → setF D (inHeader i) f (inHeader (i + 1)) ≡ D (inHeader (i + 1))) → D (inHeader (i + 1)) 0 < 268435455 → View s (totalRaised w i (i + 1)) (raiseTotal D i)
+view-raised : (s : Shape) (w : List ℕ) (D : Fields) (i : ℕ) → View s w D → i + 1 < 24 → 15 < i → kind (inHeader i) ≡ 1 → kind (inHeader (i + 1)) ≡ 1 → ((f : ℕ → ℕ) → setF D (inHeader i) f (inHeader (i + 1)) ≡ D (inHeader (i + 1))) → D (inHeader i) 0 + 268435456 * D (inHeader (i + 1)) 0 < 2 ^ 56 - 1 → View s (totalRaised w i (i + 1)) (raiseTotal D i)
 unfolding totalRaised
 view-raised s w D i g h1 h2 k1 k2 q m =
     rw (view-get s w D g k 0 i si, view-get s w D g l 0 j sj) (go (eqb (D k 0) 268435455) refl)
@@ -45,7 +45,7 @@ view-raised s w D i g h1 h2 k1 k2 q m =
 
     go : (b : Bool) → eqb (D k 0) 268435455 ≡ b → View s (pick b (setNumber (setNumber w i 0) j (D l 0 + 1)) (setNumber w i (D k 0 + 1))) (setF (setF D k (pick b (λ _. 0) (λ _. D k 0 + 1))) l (pick b (λ _. D l 0 + 1) (D l)))
     go true c =
-        view-number1 s (setNumber w i 0) (put1 D k 0) (view-number1 s w D g i 0 (omega arith) (omega arith) (omega arith) k1 (omega arith)) j (D l 0 + 1) h1 (omega arith) (omega arith) k2 (omega arith)
+        view-number1 s (setNumber w i 0) (put1 D k 0) (view-number1 s w D g i 0 (omega arith) (omega arith) (omega arith) k1 (omega arith)) j (D l 0 + 1) h1 (omega arith) (omega arith) k2 (omega (arith, m, eqb-true (D k 0) 268435455 c))
     go false c =
         let f : D k 0 < 268435456 = g .small k 0 i si in
         let n : ¬ (D k 0 ≡ 268435455) = eqb-false (D k 0) 268435455 c in
@@ -82,7 +82,7 @@ out-total D = up (D (inHeader OUTS)) (D (inHeader (OUTS + 1)))
 
 module _ (s : Shape) (w : List ℕ) (D : Fields) (residents unused : List ℕ) (g : Directory s w D residents unused) where
   -- a read is counted
-  pub read-sound : D (inHeader (READS + 1)) 0 < 268435455 → Directory s (totalRaised w READS (READS + 1)) (raiseTotal D READS) residents unused
+  pub read-sound : total D (inHeader READS) < 2 ^ 56 - 1 → Directory s (totalRaised w READS (READS + 1)) (raiseTotal D READS) residents unused
   read-sound m =
       let h = g .linked in
       record {
@@ -99,7 +99,7 @@ module _ (s : Shape) (w : List ℕ) (D : Fields) (residents unused : List ℕ) (
       }
 
   -- a write is counted
-  pub write-sound : D (inHeader (WRITES + 1)) 0 < 268435455 → Directory s (totalRaised w WRITES (WRITES + 1)) (raiseTotal D WRITES) residents unused
+  pub write-sound : total D (inHeader WRITES) < 2 ^ 56 - 1 → Directory s (totalRaised w WRITES (WRITES + 1)) (raiseTotal D WRITES) residents unused
   write-sound m =
       let h = g .linked in
       record {
@@ -116,7 +116,7 @@ module _ (s : Shape) (w : List ℕ) (D : Fields) (residents unused : List ℕ) (
       }
 
   -- a block in is counted, after its read
-  pub in-sound : D (inHeader (INS + 1)) 0 < 268435455 → total D (inHeader INS) + 1 ≤ total D (inHeader READS) → Directory s (totalRaised w INS (INS + 1)) (raiseTotal D INS) residents unused
+  pub in-sound : total D (inHeader INS) < 2 ^ 56 - 1 → total D (inHeader INS) + 1 ≤ total D (inHeader READS) → Directory s (totalRaised w INS (INS + 1)) (raiseTotal D INS) residents unused
   in-sound m l =
       let h = g .linked in
       record {
@@ -133,7 +133,7 @@ module _ (s : Shape) (w : List ℕ) (D : Fields) (residents unused : List ℕ) (
       }
 
   -- a block out is counted, after the mark was cleared
-  pub out-sound : D (inHeader (OUTS + 1)) 0 < 268435455 → total D (inHeader OUTS) + 1 + Sum (s .N) (D MODIFIED) ≤ total D (inHeader WRITES) → Directory s (totalRaised w OUTS (OUTS + 1)) (raiseTotal D OUTS) residents unused
+  pub out-sound : total D (inHeader OUTS) < 2 ^ 56 - 1 → total D (inHeader OUTS) + 1 + Sum (s .N) (D MODIFIED) ≤ total D (inHeader WRITES) → Directory s (totalRaised w OUTS (OUTS + 1)) (raiseTotal D OUTS) residents unused
   out-sound m l =
       let h = g .linked in
       record {

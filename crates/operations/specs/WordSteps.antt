@@ -1,6 +1,6 @@
 -- Each operation from words that stand for a stack to words that stand for the stack after it: what is asked is asked of the words.
 -- Assumes nothing.
-use Prim.Native.Nat.{ℕ, suc, _+_, _*_, _≤_, _<_}
+use Prim.Native.Nat.{ℕ, suc, _+_, _*_, _≤_, _<_, _-_, _^_}
 use mathlib.Core.Path.{_≡_, refl, _∙_, sym, ap, subst}
 use mathlib.Core.Bool.{Bool}
 use mathlib.Core.List.{List, [], _∷_, _++_}
@@ -39,8 +39,8 @@ use Rattle.operations.specs.MissStep.{enter-asked, replace-asked}
 -- the sum and the totals of reads and writes have room for one more
 pub record Room (w : List ℕ) : Type 0 where
   pub sum : val w SUM < 268435455
-  pub reads : val w (READS + 1) < 268435455
-  pub writes : val w (WRITES + 1) < 268435455
+  pub reads : val w READS + 268435456 * val w (READS + 1) < 2 ^ 56 - 1
+  pub writes : val w WRITES + 268435456 * val w (WRITES + 1) < 2 ^ 56 - 1
 
 -- an entry, as the words have it
 abbrev pub residentAt : Shape → List ℕ → ℕ → Resident ℕ
@@ -66,8 +66,10 @@ module _ (t : Settings) (s : Shape) (of : Of t s) (w : List ℕ) (l : List (Resi
   small r = omega (arith, r .sum, header-is SUM (omega arith) (omega arith) (omega arith))
 
   pub countable : Room w → Countable D
-  countable r =
-      (omega (arith, r .reads, header-is (READS + 1) (omega arith) (omega arith) (omega arith)), omega (arith, r .writes, header-is (WRITES + 1) (omega arith) (omega arith) (omega arith)))
+  countable r = (omega (arith, r .reads, at READS (omega arith), at (READS + 1) (omega arith)), omega (arith, r .writes, at WRITES (omega arith), at (WRITES + 1) (omega arith)))
+    where
+      at : (i : ℕ) → (15 < i) × (i < 24) → val w i ≡ D (inHeader i) 0
+      at i h = header-is i (h .1) (omega arith) (omega arith)
 
   -- from the residents and totals of the fields to those that they are
   carry : (w′ : List ℕ) (f : List (Resident ℕ) → List (Resident ℕ)) (h : List (Resident ℕ) → Totals → Totals) → Stands t s w′ (f (residentsOf D (g .order))) (h (residentsOf D (g .order)) (totalsOf D)) → Stands t s w′ (f l) (h l totals)
