@@ -50,3 +50,4 @@ pub mod WordSteps
 pub mod WordBounds
 pub mod WordPlaces
 pub mod SoundWords
+pub mod Promised

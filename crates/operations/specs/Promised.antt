@@ -1,0 +1,233 @@
+-- The directory's promises, of the words that the code leaves: reads and writes (a hit, an unused entry, the victim's) and purges, from
+-- every sound directory. Assumes nothing.
+use Prim.Native.Nat.{ℕ, suc, _+_, _-_, _*_, _^_, _≤_, _<_}
+use mathlib.Core.Path.{_≡_, refl, _∙_, sym, ap, subst}
+use mathlib.Core.Logic.{_≢_}
+use mathlib.Core.Bool.{Bool, true, false, not}
+use mathlib.Core.Option.{Option, none, some}
+use mathlib.Core.List.{List, [], _∷_, map}
+use native.Mathlib.Omega.{arith}
+use native.Mathlib.Nat.{mul-le-mul}
+use lib.Dec.{T, ltb, eqb}
+use lib.ListN.{length}
+use borrow.Author.Tests.{le-ltb}
+use Rattle.basics.specs.Basics.{All, pick}
+use Rattle.basics.specs.Basics as basics
+use Rattle.basics.specs.AllLaws.{all-map, all-image}
+use Rattle.links.specs.Off.{Off}
+use Rattle.words.specs.Words.{val}
+use Rattle.words.specs.Links.{linksChanged}
+use Rattle.words.specs.LinkLaws.{Within, within-more}
+use Rattle.settings.specs.declared.Settings.{Settings}
+use Rattle.stack.specs.Counts.{chains, exceeds}
+use Rattle.stack.specs.Recency.{Resident, Place, found, unused, replacing, counts, position, counted, place, asked, settled, lookup, removed}
+use Rattle.stack.specs.Stack.{Totals, Answer, hit, entered, replaced, accessTotals, answering}
+use Rattle.stack.specs.Entries.{entryFor, PickAt, Unused}
+use Rattle.stack.specs.PlaceLaws.{Placed, placed}
+use Rattle.stack.specs.SumLaws.{sum, asked-sum, replacing-calm, Calm, settled-sum}
+use Rattle.stack.specs.KeepLaws.{fewer, asked-few, Kept}
+use Rattle.layout.specs.Addresses.{SUM, UNUSED, BLOCK, COUNT, SECTION, MODIFIED}
+use Rattle.layout.specs.Sound.{settingsIn, totalsIn, field, sound, residentAt, residentsIn, view}
+use Rattle.layout.specs.SoundLaws.{sound-legal, sound-kept}
+use Rattle.promises.specs.Promises.{halved}
+use Rattle.promises.specs.DirectoryPromises.{placeOf, askedOf, answerOf, Accessed, Purged}
+use Rattle.linkage.specs.Fields.{Shape, Fields, base}
+use Rattle.linkage.specs.WellLinked.{Entry, WellLinked}
+use Rattle.linkage.specs.WordFields.{shape}
+use Rattle.word_ops.specs.Lists.{wordOf}
+use Rattle.word_ops.specs.Hit.{raisedCount}
+use Rattle.word_ops.specs.Victim.{victimFrom}
+use Rattle.word_ops.specs.Purge.{purged}
+use Rattle.word_ops.specs.Halve.{halved as halvedWords}
+use Rattle.word_ops.specs.Totals.{outCounted}
+use Rattle.word_ops.specs.declared.Found.{Found}
+use Rattle.word_ops.specs.declared.Found.the-variants.{At, Absent}
+use Rattle.operations.specs.Directory.{Directory}
+use Rattle.operations.specs.Residents.{Of, resident, residentsOf}
+use Rattle.operations.specs.Stands.{Stands, stands-sum, settledWords, settle-step}
+use Rattle.operations.specs.Miss.{enteredFor, replacedFor}
+use Rattle.operations.specs.Step.{hitFor}
+use Rattle.operations.specs.SoundWords.{of-sound, stands-of-sound, Read, read-off}
+use Rattle.operations.specs.WordSteps.{Room, foundIn, answered, header-is, lookup-word, hit-word, enter-word, replace-word, looked-word, exceeds-word, purge-word}
+use Rattle.operations.specs.WordBounds.{hit-links, enter-links, replace-links, purge-links}
+use Rattle.operations.specs.WordPlaces.{place-found, place-entered, place-replaced}
+
+module _ (w : List ℕ) (h : T (sound w)) where
+  abbrev t : Settings
+  t = settingsIn w
+
+  abbrev s : Shape
+  s = shape w
+
+  abbrev l : List (Resident ℕ)
+  l = residentsIn w
+
+  of : Of t s
+  of = of-sound w h
+
+  g : Stands t s w l (totalsIn w)
+  g = stands-of-sound w h
+
+  kept : Kept (record { settings = t; residents = l; store = []; totals = totalsIn w })
+  unfolding view
+  kept = sound-kept w h []
+
+  -- the totals and the sum have room for one more
+  pub room : totalsIn w .reads < 2 ^ 56 - 1 → totalsIn w .writes < 2 ^ 56 - 1 → Room w
+  unfolding totalsIn
+  room r x =
+      let legal = sound-legal w h in
+      let most : t .amax * t .n ≤ 1000 * 4096 = mul-le-mul (legal .few-average) (legal .few-blocks) in
+      let few : basics.total (counts l) ≤ t .amax * t .n = kept .sums in
+      record { sum = omega (arith, stands-sum t s w l (totalsIn w) of g); reads = r; writes = x }
+
+  -- ---- what the code's lookup finds
+
+  found-of : (block e : ℕ) → lookup block l ≡ some (residentAt w e) → foundIn s w (s .N) block ≡ At e
+  unfolding residentAt
+  found-of block e here = go (foundIn s w (s .N) block) (sym (lookup-word t s of w l (totalsIn w) g block (s .N) (omega arith)) ∙ here)
+    where
+      go : (r : Found) → answered s w r ≡ some (residentAt w e) → r ≡ At e
+      go Absent q = let z : _≡_ {A = ℕ} 0 1 = cc in absurd (omega arith)
+      go (At e′) q = ap At (ap (λ o. held-of o) q)
+        where
+          held-of : Option (Resident ℕ) → ℕ
+          held-of none = 0
+          held-of (some x) = x .held
+
+  absent-of : (block : ℕ) → lookup block l ≡ none → foundIn s w (s .N) block ≡ Absent
+  absent-of block gone = go (foundIn s w (s .N) block) (sym (lookup-word t s of w l (totalsIn w) g block (s .N) (omega arith)) ∙ gone)
+    where
+      go : (r : Found) → answered s w r ≡ none → r ≡ Absent
+      go Absent q = refl
+      go (At e′) q = let z : _≡_ {A = ℕ} 0 1 = cc in absurd (omega arith)
+
+  -- ---- a read or a write, once the counts are looked at
+
+  -- Over the words u that stand for the stack with the block at its front, at entry e.
+  module _ (k block e : ℕ) (written : Bool) (u : List ℕ) (gu : Stands t s u (askedOf w block written e) (accessTotals (totalsIn w) written (placeOf w block))) (near : Within k w u)
+      (entry-is : entryFor e (placeOf w block) ≡ e) (entry-free : PickAt (t .n) e (placeOf w block)) where
+    -- whether the sum is over its limit
+    abbrev over : Bool
+    over = ltb (t .amax * t .n) (val u SUM)
+
+    over-is : exceeds t (counts (askedOf w block written e)) ≡ over
+    over-is = exceeds-word t s of u (askedOf w block written e) (accessTotals (totalsIn w) written (placeOf w block)) gu
+
+    at : Placed t l (placeOf w block)
+    at = placed t l (kept .some-old) (kept .old-fits) (kept .few) (kept .legal) block
+
+    settled-few : basics.total (counts (settled t (askedOf w block written e))) ≤ t .amax * t .n
+    settled-few =
+        settled-sum t (askedOf w block written e) (kept .some-average) (asked-few t l (kept .few) (kept .legal) block written e (placeOf w block) at)
+        (let a = asked-sum t l (kept .legal) block written e (placeOf w block) at in let b = kept .sums in omega arith)
+
+    after : Read w (settledWords t s u) (settled t (askedOf w block written e)) (accessTotals (totalsIn w) written (placeOf w block))
+    after = read-off w h (settledWords t s u) (settled t (askedOf w block written e)) (accessTotals (totalsIn w) written (placeOf w block)) (settle-step t s u (askedOf w block written e) (accessTotals (totalsIn w) written (placeOf w block)) of gu) settled-few
+
+    settled-accessed : (answer : Answer) → answering (chains t (counts l)) over (placeOf w block) ≡ answer → (T (not (halved answer)) → T (not over)) → Accessed k w block written e answer (settledWords t s u)
+    settled-accessed answer told calm =
+        record {
+          kept = after .kept;
+          entry-is = entry-is;
+          entry-free = entry-free;
+          residents = after .residents-are;
+          totals = after .totals-are;
+          answer-is = ap (λ b. answering (chains t (counts l)) b (placeOf w block)) over-is ∙ told;
+          links-few = λ c. few over (calm c);
+        }
+      where
+        few : (b : Bool) → T (not b) → linksChanged w (pick b (halvedWords u (base s) (s .cmax)) u) ≤ k
+        few true c = absurd c
+        few false c = near .links
+
+  -- ---- a hit
+
+  -- the words that it leaves before the counts are looked at, and whether they are halved
+  abbrev pub hitWords : ℕ → Bool → List ℕ
+  hitWords e written = hitFor s w e written
+
+  abbrev pub overLimit : List ℕ → Bool
+  overLimit u = ltb (t .amax * t .n) (val u SUM)
+
+  -- A HIT of the block of resident entry e.
+  pub hit-accessed : (block e : ℕ) (written : Bool) → Room w → lookup block l ≡ some (residentAt w e)
+      → Accessed 16 w block written e (hit (raisedCount (val w (wordOf (base s) e SECTION)) (val w (wordOf (base s) e COUNT))) (overLimit (hitWords e written))) (settledWords t s (hitWords e written))
+  unfolding entryFor answering
+  hit-accessed block e written r look =
+      let here = found-of block e look in
+      let q = place-found t s of w l (totalsIn w) g block (s .N) e (omega arith) here in
+      settled-accessed 16 block e written (hitWords e written) (hit-word t s of w l (totalsIn w) g block (s .N) e written r (omega arith) here) (hit-links t s of w l (totalsIn w) g block (s .N) e written r (omega arith) here)
+      (rw q refl) (rw q tt) (hit (raisedCount (val w (wordOf (base s) e SECTION)) (val w (wordOf (base s) e COUNT))) (overLimit (hitWords e written))) (rw q refl) (λ c. c)
+
+  -- ---- an unused entry
+
+  abbrev pub enterWords : ℕ → Bool → List ℕ
+  enterWords block written = enteredFor s w block written
+
+  -- the first of the unused list is free
+  first-unused : val w UNUSED ≢ 0 → Unused (t .n) l (val w UNUSED)
+  unfolding settingsIn
+  first-unused left = go (g .unused) (g .directory)
+    where
+      go : (free : List ℕ) → Directory s w (g .fields) (g .order) free → Unused (t .n) l (val w UNUSED)
+      go [] d = absurd (left (header-is t s of w l (totalsIn w) g UNUSED (omega arith) (omega arith) (omega arith) ∙ d .linked .stack .free .fwd))
+      go (e ∷ free) d =
+          rw (header-is t s of w l (totalsIn w) g UNUSED (omega arith) (omega arith) (omega arith) ∙ d .linked .stack .free .fwd .0)
+          record {
+            least = let z : ¬ (0 ≡ e) = d .linked .stack .free .some .0 in omega arith;
+            most = d .linked .stack .idle .0 .0;
+            free =
+                subst (All (λ x. x .held ≢ e)) (g .seen)
+                (all-image (λ x. x .held ≢ e) (resident (g .fields)) (g .order) (all-map (λ x. Off x (e ∷ free)) (λ x. x ≢ e) (g .order) (λ x o. o .0) (d .linked .stack .apart)));
+          }
+
+  -- A BLOCK that no resident has ENTERS the first unused entry.
+  pub enter-accessed : (block : ℕ) (written : Bool) → Room w → block < t .m → lookup block l ≡ none → val w UNUSED ≢ 0
+      → Accessed 15 w block written (val w UNUSED) (entered (overLimit (enterWords block written))) (settledWords t s (enterWords block written))
+  unfolding entryFor answering settingsIn
+  enter-accessed block written r inside gone left =
+      let here = absent-of block gone in
+      let q = place-entered t s of w l (totalsIn w) g block (s .N) (omega arith) here left in
+      settled-accessed 15 block (val w UNUSED) written (enterWords block written) (enter-word t s of w l (totalsIn w) g block (s .N) written r inside (omega arith) here left) (enter-links t s of w l (totalsIn w) g block written r left)
+      (rw q refl) (rw q (first-unused left)) (entered (overLimit (enterWords block written))) (rw q refl) (λ c. c)
+
+  -- ---- the victim's entry
+
+  abbrev pub victimEntry : ℕ
+  victimEntry = victimFrom w (base s) (s .cmax) 1 .entry
+
+  abbrev pub replaceWords : ℕ → Bool → List ℕ
+  replaceWords block written = outCounted (val w (wordOf (base s) victimEntry MODIFIED)) (replacedFor s w (val w (wordOf (base s) victimEntry BLOCK)) victimEntry block written)
+
+  -- A BLOCK that no resident has REPLACES the victim, where no entry is unused. Counts are not halved: the sum does not rise.
+  pub replace-accessed : (block : ℕ) (written : Bool) → Room w → block < t .m → lookup block l ≡ none → val w UNUSED ≡ 0
+      → Accessed 20 w block written victimEntry (replaced (val w (wordOf (base s) victimEntry BLOCK)) (victimFrom w (base s) (s .cmax) 1 .chains) (eqb (val w (wordOf (base s) victimEntry MODIFIED)) 1)) (replaceWords block written)
+  unfolding entryFor answering settingsIn
+  replace-accessed block written r inside gone none-left =
+      let here = absent-of block gone in
+      let q = place-replaced t s of w l (totalsIn w) g block (s .N) (omega arith) here none-left in
+      let u = replaceWords block written in
+      let gu = replace-word t s of w l (totalsIn w) g block (s .N) written r inside (omega arith) here none-left in
+      let calm = subst (Calm t l) q (replacing-calm t l (kept .legal) (placeOf w block) (placed t l (kept .some-old) (kept .old-fits) (kept .few) (kept .legal) block)) block written victimEntry in
+      let few : sum (askedOf w block written victimEntry) ≤ t .amax * t .n = rw q (let b = kept .sums in omega arith) in
+      let within : overLimit u ≡ false = le-ltb (t .amax * t .n) (val u SUM) (rw (stands-sum t s u (askedOf w block written victimEntry) (accessTotals (totalsIn w) written (placeOf w block)) of gu) few) in
+      let answer = replaced (val w (wordOf (base s) victimEntry BLOCK)) (victimFrom w (base s) (s .cmax) 1 .chains) (eqb (val w (wordOf (base s) victimEntry MODIFIED)) 1) in
+      subst (λ b. Accessed 20 w block written victimEntry answer (pick b (halvedWords u (base s) (s .cmax)) u)) within
+      (settled-accessed 20 block victimEntry written u gu (replace-links t s of w l (totalsIn w) g block (s .N) written r inside (omega arith) here none-left)
+      (rw q refl) (rw q tt) answer (rw (q, ← looked-word t s of w l (totalsIn w) g none-left) refl) (λ c. rw within tt))
+
+  -- ---- a purge
+
+  abbrev pub purgeWords : ℕ → ℕ → List ℕ
+  purgeWords block e = purged w (base s) (s .cmax) (suc (s .N)) (24 + 2 * s .cmax + s .hash block) e
+
+  few-removed : (block : ℕ) → basics.total (counts (removed block l)) ≤ t .amax * t .n
+  unfolding removed
+  few-removed block = let a = fewer l (position block l) in let b = kept .sums in omega arith
+
+  pub purge-purged : (block e : ℕ) → lookup block l ≡ some (residentAt w e) → Purged 15 w block (eqb (val w (wordOf (base s) e MODIFIED)) 1) (purgeWords block e)
+  purge-purged block e look =
+      let here = found-of block e look in
+      let a = read-off w h (purgeWords block e) (removed block l) (totalsIn w) (purge-word t s of w l (totalsIn w) g block (s .N) e (omega arith) here) (few-removed block) in
+      record { kept = a .kept; residents = a .residents-are; totals = a .totals-are; links-few = purge-links t s of w l (totalsIn w) g block (s .N) e (omega arith) here .links }
