@@ -51,3 +51,4 @@ pub mod WordBounds
 pub mod WordPlaces
 pub mod SoundWords
 pub mod Promised
+pub mod Clean

@@ -6,3 +6,4 @@ pub mod Enter
 pub mod Purge
 pub mod Halve
 pub mod Totals
+pub mod Clean
