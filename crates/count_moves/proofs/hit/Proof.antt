@@ -1,0 +1,71 @@
+use borrow.Author.Needs.{needs}
+use Rattle.word_ops.specs.Hit.{hit, hitFrom}
+use Rattle.words.specs.Words.{val}
+use Rattle.count_moves.proofs.hit.Statement.{statement}
+use Rattle.count_moves.proofs.hit.Tie as tie
+use Rattle.count_moves.proofs.hit.Reads as reads
+use Rattle.count_moves.proofs.hit.Lts as lts
+use Rattle.count_moves.proofs.recount.Reads as recount-reads
+use Rattle.lists.proofs.word_of.Reads as word-of-reads
+use Rattle.stack_moves.proofs.to_front.Reads as to-front-reads
+use Rattle.values.proofs.raised_count.Reads as raised-count-reads
+use Rattle.words.proofs.get.Reads as get-reads
+
+word-of-requires : tie.Need-word-of-requires
+word-of-requires c κs = search needs
+
+get-requires : tie.Need-get-requires
+get-requires c κs = search needs
+
+word-of-requires-2 : tie.Need-word-of-requires-2
+word-of-requires-2 c κs = search needs
+
+get-requires-2 : tie.Need-get-requires-2
+get-requires-2 c κs = search needs
+
+to-front-requires : tie.Need-to-front-requires
+to-front-requires c κs = search needs
+
+raised-count-requires : tie.Need-raised-count-requires
+unfolding val
+raised-count-requires c κs = search needs
+
+recount-requires : tie.Need-recount-requires
+recount-requires c κs = search needs
+
+same-length : tie.Need-same-length
+same-length c = search needs
+
+returns : tie.Need-returns
+unfolding hit hitFrom
+returns c =
+    let p1 = c .before .before in
+    let p2 = p1 .before in
+    let p3 = p2 .before .before .before .before in
+    let p4 = p3 .before .before in
+    let p5 = p4 .before in
+    let p6 = p5 .before .before in
+    let p7 = p6 .before in
+    rw (
+      p1 .recount .ensures,
+      p3 .to-front .ensures,
+      p2 .raised-count .ensures .0,
+      p4 .get2 .ensures,
+      p5 .word-of2 .ensures,
+      p6 .get .ensures,
+      p7 .word-of .ensures,
+    )
+
+pub hit-spec : {M : Type 1} → statement M
+hit-spec =
+    tie.close
+    (tie.spec
+    word-of-requires
+    get-requires
+    word-of-requires-2
+    get-requires-2
+    to-front-requires
+    raised-count-requires
+    recount-requires
+    same-length
+    returns)
