@@ -52,3 +52,4 @@ pub mod WordPlaces
 pub mod SoundWords
 pub mod Promised
 pub mod Clean
+pub mod Reads

@@ -24,8 +24,8 @@ use Rattle.linkage.specs.Fields.{Shape, Fields, base, entry, bucket, BUCKET-HEA
 use Rattle.linkage.specs.WellLinked.{WellLinked, Bucket, Entry}
 use Rattle.word_ops.specs.Lists.{wordOf}
 use Rattle.word_ops.specs.Buckets.{searched, found}
-use Rattle.word_ops.specs.declared.Found.{Found}
-use Rattle.word_ops.specs.declared.Found.the-variants.{At, Absent}
+use Rattle.layout.specs.declared.Found.{Found}
+use Rattle.layout.specs.declared.Found.the-variants.{At, Absent}
 use Rattle.operations.specs.Directory.{Directory}
 use Rattle.operations.specs.Laws.{all-below, distinct-join}
 use Rattle.operations.specs.Residents.{resident, residentsOf, position-here}

@@ -20,7 +20,7 @@ use Rattle.linkage.specs.WellLinked.{Entry}
 use Rattle.word_ops.specs.Lists.{wordOf}
 use Rattle.word_ops.specs.Buckets.{found}
 use Rattle.word_ops.specs.Totals.{outCounted}
-use Rattle.word_ops.specs.declared.Found.the-variants.{Absent}
+use Rattle.layout.specs.declared.Found.the-variants.{Absent}
 use Rattle.operations.specs.Directory.{Directory}
 use Rattle.operations.specs.FieldOps.{enterD}
 use Rattle.operations.specs.Seen.{address}

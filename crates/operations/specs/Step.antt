@@ -13,7 +13,7 @@ use Rattle.word_ops.specs.Hit.{hit}
 use Rattle.word_ops.specs.Purge.{purged}
 use Rattle.word_ops.specs.Buckets.{found}
 use Rattle.word_ops.specs.Totals.{accessCounted}
-use Rattle.word_ops.specs.declared.Found.the-variants.{At, Absent}
+use Rattle.layout.specs.declared.Found.the-variants.{At, Absent}
 use Rattle.operations.specs.Directory.{Directory}
 use Rattle.operations.specs.FieldOps.{hitD, purgeD}
 use Rattle.operations.specs.Hit.{hit-sound}

@@ -16,7 +16,7 @@ use Rattle.linkage.specs.WellLinked.{WellLinked, Entry}
 use Rattle.word_ops.specs.Lists.{wordOf}
 use Rattle.word_ops.specs.Hit.{raisedCount}
 use Rattle.word_ops.specs.Victim.{victimFrom}
-use Rattle.word_ops.specs.declared.Found.the-variants.{At, Absent}
+use Rattle.layout.specs.declared.Found.the-variants.{At, Absent}
 use Rattle.operations.specs.Seen.{section-word, count-word}
 use Rattle.operations.specs.Enter.{NoneHas}
 use Rattle.operations.specs.Residents.{Of, resident, residentsOf}

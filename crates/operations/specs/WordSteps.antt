@@ -23,8 +23,8 @@ use Rattle.word_ops.specs.Buckets.{found}
 use Rattle.word_ops.specs.Victim.{victimFrom}
 use Rattle.word_ops.specs.Purge.{purged}
 use Rattle.word_ops.specs.Totals.{outCounted}
-use Rattle.word_ops.specs.declared.Found.{Found}
-use Rattle.word_ops.specs.declared.Found.the-variants.{At, Absent}
+use Rattle.layout.specs.declared.Found.{Found}
+use Rattle.layout.specs.declared.Found.the-variants.{At, Absent}
 use Rattle.operations.specs.Directory.{Directory}
 use Rattle.operations.specs.Seen.{address}
 use Rattle.operations.specs.Miss.{Countable, enteredFor, replacedFor}

@@ -8,7 +8,7 @@ use mathlib.Core.Logic.{_≢_}
 use mathlib.Core.Bool.{Bool, true, false, not}
 use mathlib.Core.Option.{Option, none, some}
 use mathlib.Core.List.{List, map}
-use lib.ListN.{length, drop}
+use lib.ListN.{length, drop, getD}
 use lib.Dec.{T, eqb}
 use Rattle.basics.specs.Basics.{if_then_else_}
 use Rattle.words.specs.Links.{linksChanged}
@@ -18,8 +18,15 @@ use Rattle.stack.specs.Counts.{chains, exceeds}
 use Rattle.stack.specs.Recency.{Resident, Place, counts, cleaned, place, asked, settled, lookup, removed}
 use Rattle.stack.specs.Stack.{Totals, Answer, hit, entered, replaced, accessTotals, answering}
 use Rattle.stack.specs.Entries.{entryFor, PickAt}
-use Rattle.layout.specs.Sound.{settingsIn, totalsIn, sound, residentsIn}
+use Rattle.layout.specs.Sound.{settingsIn, totalsIn, sound, residentAt, residentsIn}
+use Rattle.layout.specs.declared.Found.{Found}
+use Rattle.layout.specs.declared.Found.the-variants.{At, Absent}
 use Rattle.promises.specs.Promises.{halved}
+
+-- What a lookup yields, as the resident that it found.
+abbrev pub foundResident : List ℕ → Found → Option (Resident ℕ)
+foundResident words Absent = none
+foundResident words (At entry) = some (residentAt words entry)
 
 -- What every operation keeps.
 pub record Kept (before after : List ℕ) : Type 0 where
@@ -72,3 +79,9 @@ pub record Cleaned (before : List ℕ) (entry : ℕ) (after : List ℕ) : Type 0
   pub kept : Kept before after
   pub residents : residentsIn after ≡ cleanedAt entry (residentsIn before)
   pub totals : totalsIn after ≡ oneOut (totalsIn before)
+
+-- ---- reading along the stack
+
+-- the entry of the resident at a position, 0 where there is none
+abbrev pub entryAt : List (Resident ℕ) → ℕ → ℕ
+entryAt l p = getD (map (λ x. x .held) l) p 0

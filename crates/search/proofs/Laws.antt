@@ -10,7 +10,7 @@ use Rattle.layout.specs.Addresses.{TAIL, BLOCK, NEXT-SYNONYM, chainTail}
 use Rattle.word_ops.specs.Lists.{wordOf}
 use Rattle.word_ops.specs.Buckets.{searched, synonymBefore}
 use Rattle.word_ops.specs.Victim.{isOldEntry, victimFrom}
-use Rattle.word_ops.specs.declared.Found.the-variants.{At, Absent}
+use Rattle.layout.specs.declared.Found.the-variants.{At, Absent}
 
 -- a lookup
 module _ (w : List ℕ) (at block : ℕ) where

@@ -2,7 +2,7 @@ ghost use mathlib.Core.Path.{_≡_};
 ghost use Prim.Native.Nat.{_≤_};
 ghost use Rattle.word_ops.specs.Buckets.{synonymBefore, searched, found};
 ghost use Rattle.word_ops.specs.Victim.{isOldEntry, victimFrom};
-use word_ops::Found;
+use layout::Found;
 use word_ops::Picked;
 
 // The entry with that block from the synonym `first` on, within so many links.

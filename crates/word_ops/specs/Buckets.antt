@@ -7,8 +7,8 @@ use Rattle.basics.specs.Basics.{pick}
 use Rattle.words.specs.Words.{val, setLink, setNumber}
 use Rattle.layout.specs.Addresses.{BLOCK, NEXT-SYNONYM}
 use Rattle.word_ops.specs.Lists.{wordOf, slotOf}
-use Rattle.word_ops.specs.declared.Found.{Found}
-use Rattle.word_ops.specs.declared.Found.the-variants.{At, Absent}
+use Rattle.layout.specs.declared.Found.{Found}
+use Rattle.layout.specs.declared.Found.the-variants.{At, Absent}
 
 -- the block of e, which becomes the first of its bucket
 unfoldable pub bucketJoined : List ℕ → ℕ → ℕ → ℕ → ℕ → List ℕ
