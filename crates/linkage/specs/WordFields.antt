@@ -96,7 +96,7 @@ module _ (w : List ℕ) where
       }
 
   -- every word is in its place
-  address-of : (a : ℕ) → a < base + 9 * val w CACHE-BLOCKS → (k : ℕ) × (e : ℕ) × Address shape k e a
+  pub address-of : (a : ℕ) → a < base + 9 * val w CACHE-BLOCKS → (k : ℕ) × (e : ℕ) × Address shape k e a
   address-of a h = ⊎-elim
       (λ u. (20 + a, 0, header refl refl (omega arith) (omega arith) (omega arith)))
       (λ u. ⊎-elim

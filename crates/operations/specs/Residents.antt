@@ -25,7 +25,6 @@ pub record Of (t : Settings) (s : Shape) : Type 0 where
   pub old-is : t .nold + s .old ≡ t .n
   pub cmax-is : t .cmax ≡ s .cmax
 
-
 abbrev pub residentsOf : Fields → List ℕ → List (Resident ℕ)
 residentsOf D residents = map (resident D) residents
 

@@ -1,0 +1,45 @@
+use Rattle.directory.proofs.Laws.{clean-returns}
+use Rattle.word_ops.specs.Clean.{cleaned}
+use borrow.Author.Needs.{needs}
+use Rattle.directory.proofs.clean.Statement.{statement}
+use Rattle.directory.proofs.clean.Tie as tie
+use Rattle.directory.proofs.clean.Reads as reads
+use Rattle.directory.proofs.clean.Lts as lts
+use Rattle.directory.proofs.entries_at.Reads as entries-at-reads
+use Rattle.lists.proofs.word_of.Reads as word-of-reads
+use Rattle.totals.proofs.total_raise.Reads as total-raise-reads
+use Rattle.words.proofs.set_number.Reads as set-number-reads
+
+entries-at-requires : tie.Need-entries-at-requires
+entries-at-requires c κs = search needs
+
+word-of-requires : tie.Need-word-of-requires
+word-of-requires c κs = search needs
+
+set-number-requires : tie.Need-set-number-requires
+set-number-requires c κs = search needs
+
+add-total-raise : tie.Need-add-total-raise
+add-total-raise c = search needs
+
+total-raise-requires : tie.Need-total-raise-requires
+total-raise-requires c κs = search needs
+
+same-length : tie.Need-same-length
+same-length c = search needs
+
+returns : tie.Need-returns
+unfolding cleaned
+returns c = clean-returns _ _ _ _ (c .before .before .before .before .before .before .before .before .before .before .before .before .pre) (c .before .before .before .before .before .before .before .before .before .entries-at .ensures) (rw (c .before .before .total-raise .ensures, c .before .before .before .before .before .before .set-number .ensures, c .before .before .before .before .before .before .before .word-of .ensures))
+
+pub clean-spec : {M : Type 1} → statement M
+clean-spec =
+    tie.close
+    (tie.spec
+    entries-at-requires
+    word-of-requires
+    set-number-requires
+    add-total-raise
+    total-raise-requires
+    same-length
+    returns)

@@ -1,0 +1,25 @@
+use Rattle.layout.specs.Sound.{settingsIn, field, residentAt}
+use borrow.Author.Needs.{needs}
+use Rattle.directory.proofs.is_modified.Statement.{statement}
+use Rattle.directory.proofs.is_modified.Tie as tie
+use Rattle.directory.proofs.is_modified.Reads as reads
+use Rattle.directory.proofs.is_modified.Lts as lts
+use Rattle.directory.proofs.entries_at.Reads as entries-at-reads
+use Rattle.lists.proofs.word_of.Reads as word-of-reads
+use Rattle.words.proofs.get.Reads as get-reads
+
+entries-at-requires : tie.Need-entries-at-requires
+entries-at-requires c κs = search needs
+
+word-of-requires : tie.Need-word-of-requires
+word-of-requires c κs = search needs
+
+get-requires : tie.Need-get-requires
+get-requires c κs = search needs
+
+returns : tie.Need-returns
+unfolding residentAt field settingsIn
+returns c = rw (c .get .ensures, c .before .word-of .ensures, c .before .before .entries-at .ensures)
+
+pub is-modified-spec : {M : Type 1} → statement M
+is-modified-spec = tie.close (tie.spec entries-at-requires word-of-requires get-requires returns)
