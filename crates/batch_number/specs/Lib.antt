@@ -1,0 +1,4 @@
+pub mod Tallies
+pub mod Lengths
+pub mod LengthLaws
+pub mod TallyLaws

@@ -1,0 +1,132 @@
+use settings::Settings;
+ghost use mathlib.Core.Path.{_≡_};
+ghost use Prim.Native.Nat.{_+_, _^_, _≤_, _<_};
+ghost use lib.ListN.{length};
+ghost use Rattle.settings.specs.Numbers.{settingsNumber};
+ghost use Rattle.stack.specs.Batch.{work};
+ghost use Rattle.batch_number.specs.Tallies.{kindOf, plus, tally};
+ghost use Rattle.batch_number.specs.Lengths.{numberBy};
+
+// The most words of a batch, and the most reads and writes carried out: 2^56 − 1.
+const MOST_WORDS: usize = 1024;
+
+const MOST_REFERENCES: u64 = 72057594037927935;
+
+// How many words of a batch are reads, writes and invalid.
+struct Tally {
+    reads: u32,
+    writes: u32,
+    invalid: u32,
+}
+
+// The kind of a work word, the top 4 bits, by its value, the low 28; 0 where the word is invalid.
+pub fn kind_of(s: Settings, word: u32) -> u32
+    ensures { λ r. ⌜ r ≡ kindOf (work s word) ⌝ }
+{
+    let kind = word / words::VALUES;
+    let value = word % words::VALUES;
+    if kind == 4 {
+        if value == 0 {
+            return 4;
+        }
+        return 0;
+    }
+    if value >= s.m {
+        return 0;
+    }
+    if kind > 4 {
+        return 0;
+    }
+    kind
+}
+
+// A tally with one work word more.
+fn and_word(s: Settings, t: Tally, word: u32) -> Tally
+    requires { ⌜ (t .reads ≤ 1024) × (t .writes ≤ 1024) × (t .invalid ≤ 1024) ⌝ }
+    ensures { λ r. ⌜ r ≡ plus t (work s word) ⌝ }
+{
+    let kind = kind_of(s, word);
+    if kind == 0 {
+        return Tally {
+            reads: t.reads,
+            writes: t.writes,
+            invalid: t.invalid + 1,
+        };
+    }
+    if kind == 1 {
+        return Tally {
+            reads: t.reads + 1,
+            writes: t.writes,
+            invalid: t.invalid,
+        };
+    }
+    if kind == 2 {
+        return Tally {
+            reads: t.reads,
+            writes: t.writes + 1,
+            invalid: t.invalid,
+        };
+    }
+    t
+}
+
+// The tally of a batch's words.
+fn count(s: Settings, work: &[u32]) -> Tally
+    requires { ⌜ length (now work) ≤ 1024 ⌝ }
+    ensures { λ r. ⌜ r ≡ tally s (now (work .entry)) ⌝ }
+{
+    let mut t = Tally {
+        reads: 0,
+        writes: 0,
+        invalid: 0,
+    };
+    let mut i = 0;
+    while i < work.len() {
+        t = and_word(s, t, work[i]);
+        i += 1;
+    }
+    t
+}
+
+// The number of a batch, 7 to 11 or 0, by the settings, the reads and writes carried out, the words and the lengths lent.
+pub fn batch_number(
+    s: Settings,
+    references: u64,
+    bytes: usize,
+    store: usize,
+    work: &[u32],
+    incoming: usize,
+    answers: usize,
+    outgoing: usize,
+) -> u32
+    requires { ⌜ (settingsNumber s ≡ 0) × (references ≤ 2 ^ 57) ⌝ }
+    ensures { λ r. ⌜ r ≡ numberBy s references bytes store (now (work .entry)) incoming answers outgoing ⌝ }
+{
+    let b = s.b as usize;
+    if bytes < (s.n as usize) * b {
+        return 7;
+    }
+    if store < (s.m as usize) * b {
+        return 7;
+    }
+    if work.len() > MOST_WORDS {
+        return 8;
+    }
+    let t = count(s, work);
+    if t.invalid > 0 {
+        return 9;
+    }
+    if answers < work.len() {
+        return 10;
+    }
+    if incoming < (t.writes as usize) * b {
+        return 10;
+    }
+    if outgoing < (t.reads as usize) * b {
+        return 10;
+    }
+    if references + (work.len() as u64) > MOST_REFERENCES {
+        return 11;
+    }
+    0
+}
