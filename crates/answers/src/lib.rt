@@ -4,15 +4,22 @@ ghost use Prim.Native.Nat.{_^_, _≤_, _<_};
 ghost use Rattle.stack.specs.Stack.{hit, entered, replaced, purged, absent, flushed, answerWord};
 
 const HIT: u32 = 268435456;
+
 const ENTERED: u32 = 536870912;
+
 const REPLACED: u32 = 805306368;
+
 const PURGED: u32 = 1073741824;
+
 const ABSENT: u32 = 1342177280;
+
 const FLUSHED: u32 = 1610612736;
 
 // What is added where counts were halved, for each chain looked at, and where the victim was written out.
 const HALVED: u32 = 67108864;
+
 const CHAIN: u32 = 262144;
+
 const OUT: u32 = 33554432;
 
 // A hit: the count after any rise and before halving.

@@ -1,0 +1,267 @@
+-- What the functions ask of each other and return, over variables.
+use Prim.Native.Nat.{ℕ, _+_, _-_, _*_, _^_, _≤_, _<_}
+use native.Mathlib.Omega.{arith}
+use native.Mathlib.Nat.{min-le-right}
+use mathlib.Core.Path.{_≡_, refl, sym, ap, subst, _∙_}
+use mathlib.Core.Bool.{Bool, true, false}
+use mathlib.Core.Option.{none, some}
+use mathlib.Core.List.{List, [], _++_}
+use lib.ListN.{length, take, drop}
+use lib.Dec.{T}
+use Rattle.basics.specs.Basics.{if_then_else_, pick, blockAt, putBlock}
+use Rattle.settings.specs.declared.Settings.{Settings}
+use Rattle.stack.specs.Counts.{chains, victimCount}
+use Rattle.stack.specs.Recency.{Place, lookup, counts}
+use Rattle.stack.specs.Stack.{read, write, purge, Answer, hit, entered, replaced, purged, absent, flushed, answering, answerWord}
+use Rattle.stack.specs.BufferLaws.{length-blockAt, length-putBlock, put-same}
+use Rattle.stack.specs.PlaceLaws.{Placed, hits, enters, replaces}
+use Rattle.layout.specs.Sound.{settingsIn, sound, residentAt, residentsIn}
+use Rattle.layout.specs.SoundLaws.{sound-legal, sound-residents}
+use Rattle.promises.specs.DirectoryPromises.{placeOf, Accessed, Purged}
+use Rattle.promises.specs.Demand3.{Memory}
+use Rattle.cache_steps.specs.Carried.{settingsOf, memory, Ready, Carried}
+use Rattle.cache_steps.specs.Told.{storeAfter, bytesRead}
+use Rattle.cache_steps.specs.FrontLaws.{put-own}
+use Rattle.cache_steps.specs.Places.{placed-in, store-room}
+use Rattle.cache_steps.specs.AccessSteps.{access-least, access-entry, access-carried, victim-below, victim-block}
+use Rattle.cache_steps.specs.PurgeStep.{purge-carried, absent-carried}
+use Rattle.directory.specs.Ready.{Countable, HitReady, MissReady, EnterReady, ReplaceReady, PurgeReady}
+use Rattle.accesses.specs.declared.Asked.{Asked}
+use Rattle.accesses.specs.Done.{AccessReady, MissesReady, ReplacesReady, isHit, AccessDone, ReadDone, WriteDone, PurgeDone}
+
+-- ---- answers of a read or a write
+
+-- none of the others
+abbrev Asking : Answer → Type 0
+Asking (hit n h) = Unit {0}
+Asking (entered h) = Unit {0}
+Asking (replaced v n o) = Unit {0}
+Asking (purged t) = ⊥
+Asking absent = ⊥
+Asking (flushed n) = ⊥
+
+module _ (d : List ℕ) (ok : T (sound d)) (b : ℕ) where
+  abbrev s : Settings
+  s = settingsIn d
+
+  abbrev looked : ℕ
+  looked = chains s (counts (residentsIn d))
+
+  -- a count is at most 65,535
+  pub count-few : {k e n : ℕ} {written h : Bool} {after : List ℕ} → Accessed k d b written e (hit n h) after → n ≤ 65535
+  unfolding answering
+  count-few {n = n} {h = h} accessed = go (placeOf d b) (placed-in d ok b) _ (accessed .answer-is)
+    where
+      go : (q : Place ℕ) → Placed s (residentsIn d) q → (h₀ : Bool) → answering looked h₀ q ≡ hit n h → n ≤ 65535
+      go q (hits p x n₀ e legal up) h₀ is = let same : n₀ ≡ n = cc in let g = legal .1 in omega arith
+      go q (enters u) h₀ is = let z : _≡_ {A = ℕ} 0 1 = cc in absurd (omega arith)
+      go q (replaces v x e full c) h₀ is = let z : _≡_ {A = ℕ} 0 1 = cc in absurd (omega arith)
+
+  -- at most Cmax chains are looked at
+  chains-few : {k e v n : ℕ} {written out : Bool} {after : List ℕ} → Accessed k d b written e (replaced v n out) after → n ≤ 64
+  unfolding answering
+  chains-few {v = v} {n = n} {out = out} accessed = go (placeOf d b) (placed-in d ok b) _ (accessed .answer-is)
+    where
+      go : (q : Place ℕ) → Placed s (residentsIn d) q → (h₀ : Bool) → answering looked h₀ q ≡ replaced v n out → n ≤ 64
+      go q (hits p x n₀ e legal up) h₀ is = let z : _≡_ {A = ℕ} 0 1 = cc in absurd (omega arith)
+      go q (enters u) h₀ is = let z : _≡_ {A = ℕ} 0 1 = cc in absurd (omega arith)
+      go q (replaces w x e full c) h₀ is = let same : looked ≡ n = cc in let g = sound-legal d ok .few-chains in let f = min-le-right (victimCount s (counts (residentsIn d))) (s .cmax) in omega arith
+
+  asking : {k e : ℕ} {written : Bool} {answer : Answer} {after : List ℕ} → Accessed k d b written e answer after → Asking answer
+  unfolding answering
+  asking accessed = subst Asking (accessed .answer-is) (go (placeOf d b) (placed-in d ok b) _)
+    where
+      go : (q : Place ℕ) → Placed s (residentsIn d) q → (h₀ : Bool) → Asking (answering looked h₀ q)
+      go q (hits p x n₀ e legal up) h₀ = tt
+      go q (enters u) h₀ = tt
+      go q (replaces w x e full c) h₀ = tt
+
+-- ---- the victim written out
+
+module _ (m : Memory) (size block : ℕ) (ready : ReplacesReady m size block) (written : Bool) {k e v n : ℕ} {out : Bool} {d : List ℕ}
+    (accessed : Accessed k (m .directory) block written e (replaced v n out) d) where
+  pub write-out-room : (1 ≤ e) × ((e - 1) * size + size ≤ length (m .bytes)) × (v * size + size ≤ length (m .store))
+  write-out-room =
+      rw (ready .size-is)
+      (access-least m (ready .ready) block written accessed, access-entry m (ready .ready) block written accessed, victim-block m (ready .ready) block written accessed)
+
+  pub replaced-small : (v < 2 ^ 18) × (n ≤ 64)
+  replaced-small =
+      let h = victim-below m (ready .ready) block written accessed in
+      let g = sound-legal (m .directory) (ready .ready .is-sound) .few-stored in
+      (omega arith, chains-few (m .directory) (ready .ready .is-sound) block accessed)
+
+  pub replaced-done : k ≤ 20 → (store : List ℕ) → store ≡ pick out (putBlock size v (blockAt size (e - 1) (m .bytes)) (m .store)) (m .store)
+      → (word : ℕ) → word ≡ answerWord (replaced v n out) → AccessDone m block written (record { entry = e; answer = word; resident = false }) d store
+  replaced-done few store is word word-is =
+      record {
+        answer = replaced v n out;
+        links = k;
+        few = few;
+        accessed = accessed;
+        word-is = word-is;
+        resident-is = refl;
+        store-is = rw (ready .size-is) at is;
+      }
+
+-- ---- a miss
+
+pub miss-ready : (m : Memory) (s : Settings) (block : ℕ) → MissesReady m s block → MissReady (m .directory) block
+miss-ready m s block h =
+    record { is-sound = h .access .ready .is-sound; inside = h .access .inside; absent = h .absent; countable = h .access .countable }
+
+pub enter-ready : (m : Memory) (s : Settings) (block n : ℕ) → MissesReady m s block → n ≡ length (residentsIn (m .directory)) → n < s .n → EnterReady (m .directory) block
+enter-ready m s block n h is below =
+    let e = ap (λ (t : Settings). t .n) (h .access .settings-are) in
+    record { miss = miss-ready m s block h; unused = omega arith }
+
+pub replace-ready : (m : Memory) (s : Settings) (block n : ℕ) → MissesReady m s block → n ≡ length (residentsIn (m .directory)) → s .n ≤ n → ReplacesReady m (s .b) block
+replace-ready m s block n h is full =
+    let e = ap (λ (t : Settings). t .n) (h .access .settings-are) in
+    let few = sound-residents (m .directory) (h .access .ready .is-sound) .few in
+    record {
+      ready = h .access .ready;
+      size-is = ap (λ (t : Settings). t .b) (h .access .settings-are);
+      replace = record { miss = miss-ready m s block h; full = omega arith };
+    }
+
+-- ---- a hit
+
+pub hit-ready : (m : Memory) (s : Settings) (block e : ℕ) → AccessReady m s block → lookup block (residentsIn (m .directory)) ≡ some (residentAt (m .directory) e) → HitReady (m .directory) e
+hit-ready m s block e h here =
+    record { is-sound = h .ready .is-sound; resident = record { block = block; here = here }; countable = h .countable }
+
+pub hit-done : (m : Memory) (block : ℕ) (written : Bool) {e n : ℕ} {halved : Bool} {d : List ℕ} → Accessed 16 (m .directory) block written e (hit n halved) d
+    → (word : ℕ) → word ≡ answerWord (hit n halved) → AccessDone m block written (record { entry = e; answer = word; resident = true }) d (m .store)
+hit-done m block written {n = n} {halved = halved} accessed word word-is =
+    record { answer = hit n halved; links = 16; few = omega arith; accessed = accessed; word-is = word-is; resident-is = refl; store-is = refl }
+
+-- ---- bytes of the word
+
+module _ (m : Memory) (s : Settings) (block : ℕ) (ready : AccessReady m s block) (written : Bool) (a : Asked) (d store : List ℕ) (done : AccessDone m block written a d store) where
+  abbrev B : ℕ
+  B = settingsOf m .b
+
+  pub size-is : s .b ≡ settingsOf m .b
+  size-is = ap (λ (t : Settings). t .b) (ready .settings-are)
+
+  pub entry-least : 1 ≤ a .entry
+  entry-least = access-least m (ready .ready) block written (done .accessed)
+
+  pub entry-room : (a .entry - 1) * s .b + s .b ≤ length (m .bytes)
+  entry-room = rw size-is (access-entry m (ready .ready) block written (done .accessed))
+
+  -- a victim's bytes leave the store as long as it was
+  store-same : length store ≡ length (m .store)
+  store-same = ap length (done .store-is) ∙ go (done .answer) (done .accessed)
+    where
+      go : (x : Answer) → Accessed (done .links) (m .directory) block written (a .entry) x d → length (storeAfter m block (a .entry) x) ≡ length (m .store)
+      go (hit n h) t = refl
+      go (entered h) t = refl
+      go (replaced v n false) t = refl
+      go (replaced v n true) t =
+          length-putBlock B v (blockAt B (a .entry - 1) (m .bytes)) (m .store)
+          (length-blockAt B (a .entry - 1) (m .bytes) (access-entry m (ready .ready) block written (done .accessed)))
+          (victim-block m (ready .ready) block written t)
+      go (purged t) u = refl
+      go absent u = refl
+      go (flushed n) u = refl
+
+  pub block-room : block * s .b + s .b ≤ length store
+  block-room = rw (size-is, store-same) (store-room m (ready .ready) block (ready .inside))
+
+  pub bring-in-room : (1 ≤ a .entry) × ((a .entry - 1) * s .b + s .b ≤ length (m .bytes)) × (block * s .b + s .b ≤ length store)
+  bring-in-room = (entry-least, entry-room, block-room)
+
+  -- whether the block comes in is whether it wasn't resident: its entry then holds the bytes that the answer tells
+  abbrev brought : List ℕ
+  brought = pick (a .resident) (m .bytes) (putBlock B (a .entry - 1) (blockAt B block store) (m .bytes))
+
+  missed : (given : List ℕ) → a .resident ≡ false → blockAt B block store ≡ given
+      → (brought ≡ putBlock B (a .entry - 1) given (m .bytes)) × (blockAt B (a .entry - 1) brought ≡ given)
+  missed given out is =
+      let same : brought ≡ putBlock B (a .entry - 1) (blockAt B block store) (m .bytes) = rw out refl in
+      let room = access-entry m (ready .ready) block written (done .accessed) in
+      let sized = length-blockAt B block store (rw size-is at block-room) in (
+        same ∙ ap (λ x. putBlock B (a .entry - 1) x (m .bytes)) is,
+        ap (blockAt B (a .entry - 1)) same ∙ put-same B (a .entry - 1) (blockAt B block store) (m .bytes) sized room ∙ is,
+      )
+
+  brings : (brought ≡ putBlock B (a .entry - 1) (bytesRead m block (a .entry) (done .answer)) (m .bytes)) × (blockAt B (a .entry - 1) brought ≡ bytesRead m block (a .entry) (done .answer))
+  brings = go (done .answer) (asking (m .directory) (ready .ready .is-sound) block (done .accessed)) (done .resident-is) (done .store-is)
+    where
+      go : (x : Answer) → Asking x → a .resident ≡ isHit x → store ≡ storeAfter m block (a .entry) x
+          → (brought ≡ putBlock B (a .entry - 1) (bytesRead m block (a .entry) x) (m .bytes)) × (blockAt B (a .entry - 1) brought ≡ bytesRead m block (a .entry) x)
+      go (hit n h) t r st = rw r (sym (put-own B (a .entry - 1) (m .bytes)), refl)
+      go (entered h) t r st = missed (blockAt B block (m .store)) r (ap (blockAt B block) st)
+      go (replaced v n out) t r st = missed (bytesRead m block (a .entry) (replaced v n out)) r (ap (blockAt B block) st)
+      go (purged x) t r st = absurd t
+      go absent t r st = absurd t
+      go (flushed n) t r st = absurd t
+
+  -- the data buffer as long as it was
+  pub brought-room : (bytes : List ℕ) → bytes ≡ pick (a .resident) (m .bytes) (putBlock (s .b) (a .entry - 1) (blockAt (s .b) block store) (m .bytes))
+      → (a .entry - 1) * s .b + s .b ≤ length bytes
+  brought-room bytes is = rw (is, go (a .resident)) entry-room
+    where
+      go : (r : Bool) → length (pick r (m .bytes) (putBlock (s .b) (a .entry - 1) (blockAt (s .b) block store) (m .bytes))) ≡ length (m .bytes)
+      go true = refl
+      go false = length-putBlock (s .b) (a .entry - 1) (blockAt (s .b) block store) (m .bytes) (length-blockAt (s .b) block store block-room) entry-room
+
+-- ---- the words carried out
+
+pub read-done : (m : Memory) (s : Settings) (block : ℕ) (ready : AccessReady m s block) (a : Asked) (d store bytes : List ℕ) → AccessDone m block false a d store
+    → bytes ≡ pick (a .resident) (m .bytes) (putBlock (s .b) (a .entry - 1) (blockAt (s .b) block store) (m .bytes))
+    → (j : ℕ) (before outgoing : List ℕ) → outgoing ≡ putBlock (s .b) j (blockAt (s .b) (a .entry - 1) bytes) before
+    → ReadDone m block (memory d bytes store) (a .answer) (s .b) j before outgoing
+read-done m s block ready a d store bytes done is j before outgoing out =
+    let size = size-is m s block ready false a d store done in
+    let (whole, block-is) = brings m s block ready false a d store done in
+    let is₁ = rw size at is in
+    let given = bytesRead m block (a .entry) (done .answer) in
+    record {
+      answer = done .answer;
+      given = given;
+      carried = λ incoming.
+          rw (is₁, whole, done .store-is)
+          (access-carried m (ready .ready) block false (done .accessed) (ready .inside) incoming (λ t. absurd t) (done .few));
+      word-is = done .word-is;
+      outgoing-is = out ∙ ap (λ x. putBlock (s .b) j x before) (rw size (ap (blockAt (settingsOf m .b) (a .entry - 1)) is₁ ∙ block-is));
+    }
+
+pub write-done : (m : Memory) (s : Settings) (block : ℕ) (ready : AccessReady m s block) (a : Asked) (d store bytes : List ℕ) → AccessDone m block true a d store
+    → (j : ℕ) (incoming : List ℕ) → j * s .b + s .b ≤ length incoming → bytes ≡ putBlock (s .b) (a .entry - 1) (blockAt (s .b) j incoming) (m .bytes)
+    → WriteDone m block (blockAt (s .b) j incoming) (memory d bytes store) (a .answer)
+write-done m s block ready a d store bytes done j incoming room is =
+    let size = size-is m s block ready true a d store done in
+    let is₁ : bytes ≡ putBlock (settingsOf m .b) (a .entry - 1) (blockAt (s .b) j incoming) (m .bytes) = is ∙ ap (λ B. putBlock B (a .entry - 1) (blockAt (s .b) j incoming) (m .bytes)) size in
+    record {
+      answer = done .answer;
+      carried =
+          rw (is₁, done .store-is)
+          (access-carried m (ready .ready) block true (done .accessed) (ready .inside) (blockAt (s .b) j incoming) (λ t. length-blockAt (s .b) j incoming room ∙ size) (done .few));
+      word-is = done .word-is;
+    }
+
+-- ---- purge
+
+pub purge-ready : (d : List ℕ) (block e : ℕ) → T (sound d) → lookup block (residentsIn d) ≡ some (residentAt d e) → PurgeReady d e
+purge-ready d block e ok here = record { is-sound = ok; resident = record { block = block; here = here } }
+
+pub purge-done : (d : List ℕ) (block e : ℕ) (r : Bool) (after : List ℕ) → lookup block (residentsIn d) ≡ some (residentAt d e)
+    → ((b : ℕ) → lookup b (residentsIn d) ≡ some (residentAt d e) → (residentAt d e .modified ≡ r) × Purged 15 d b r after)
+    → (word : ℕ) → word ≡ answerWord (purged r) → PurgeDone d block after word
+purge-done d block e r after here gone word word-is =
+    record {
+      answer = purged r;
+      carried = λ bytes store incoming ready. purge-carried (memory d bytes store) ready block incoming (gone block here .1) here (gone block here .0) (omega arith);
+      word-is = word-is;
+    }
+
+pub absent-done : (d : List ℕ) (block : ℕ) → lookup block (residentsIn d) ≡ none → (word : ℕ) → word ≡ answerWord absent → PurgeDone d block d word
+absent-done d block here word word-is =
+    record {
+      answer = absent;
+      carried = λ bytes store incoming ready. absent-carried (memory d bytes store) ready block incoming here;
+      word-is = word-is;
+    }

@@ -1,0 +1,125 @@
+-- A flush along the stack, over variables: what one resident takes and leaves, and what the whole walk leaves.
+use Prim.Native.Nat.{ℕ, zero, suc, _+_, _-_, _*_, _≤_, _<_}
+use native.Mathlib.Omega.{arith}
+use mathlib.Core.Path.{_≡_, refl, sym, ap, _∙_}
+use mathlib.Core.Bool.{Bool, true, false}
+use mathlib.Core.List.{List, [], _∷_, map}
+use mathlib.Core.Option.{some}
+use lib.ListN.{length, getD, getElem?}
+use lib.Dec.{T}
+use Rattle.basics.specs.Basics.{blockAt, putBlock}
+use Rattle.stack.specs.Recency.{Resident}
+use Rattle.layout.specs.Sound.{sound, residentAt, residentsIn}
+use Rattle.layout.specs.SoundLaws.{sound-legal, sound-residents}
+use Rattle.promises.specs.DirectoryPromises.{Cleaned, entryAt}
+use Rattle.promises.specs.Demand3.{Memory}
+use Rattle.operations.specs.Reads.{at-entry}
+use Rattle.directory.specs.Ready.{CleanReady}
+use Rattle.cache_steps.specs.Carried.{settingsOf, memory, Ready}
+use Rattle.cache_steps.specs.Places.{resident-fit, resident-entry, resident-block}
+use Rattle.cache_steps.specs.FlushLists.{passed}
+use Rattle.cache_steps.specs.FlushStep.{Flushing, flush-clean, flush-modified, flush-length, flush-ready}
+use Rattle.flushing.specs.Standing.{Standing, EntryReady}
+
+-- ---- the resident at a position
+
+record Here (l : List (Resident ℕ)) (p e : ℕ) : Type 0 where
+  pub resident : Resident ℕ
+  pub here : getElem? l p ≡ some resident
+  pub entry : resident .held ≡ e
+
+found : (l : List (Resident ℕ)) (p e : ℕ) → p < length l → entryAt l p ≡ e → Here l p e
+found [] p e h q = absurd (omega arith)
+found (x ∷ l) zero e h q = record { resident = x; here = refl; entry = q }
+found (x ∷ l) (suc p) e h q = let r = found l p e (omega arith) q in record { resident = r .resident; here = r .here; entry = r .entry }
+
+of-standing : (w : List ℕ) (p e : ℕ) → Standing w p e → Here (residentsIn w) p e
+of-standing w p e s = found (residentsIn w) p e (s .inside) (s .entry)
+
+-- by the words of its entry
+here-is : (w : List ℕ) (p e : ℕ) → T (sound w) → (h : Here (residentsIn w) p e) → h .resident ≡ residentAt w e
+here-is w p e ok h = at-entry w ok p (h .resident) (h .here) ∙ ap (residentAt w) (h .entry)
+
+-- ---- one resident: room for its bytes, and its mark
+
+module _ (m : Memory) (size e : ℕ) (r : EntryReady m size e) where
+  h : Here (residentsIn (m .directory)) (r .position) e
+  h = of-standing (m .directory) (r .position) e (r .standing)
+
+  pub entry-some : 1 ≤ e
+  entry-some = rw (← h .entry) (resident-fit m (r .ready) (r .position) (h .here) .least)
+
+  pub entry-room : (e - 1) * size + size ≤ length (m .bytes)
+  entry-room = rw (r .size-is, ← h .entry) (resident-entry m (r .ready) (r .position) (h .here))
+
+  pub block-room : (block : ℕ) → block ≡ residentAt (m .directory) e .block → block * size + size ≤ length (m .store)
+  block-room block b = rw (r .size-is, b, ← here-is (m .directory) (r .position) e (r .ready .is-sound) h) (resident-block m (r .ready) (r .position) (h .here))
+
+  pub clean-ready : (t : Bool) → t ≡ residentAt (m .directory) e .modified → t ≡ true → CleanReady (m .directory) e
+  clean-ready t is set =
+      record {
+        is-sound = r .ready .is-sound;
+        position = r .position;
+        resident = h .resident;
+        here = h .here;
+        entry = h .entry;
+        modified = ap (λ x. x .modified) (here-is (m .directory) (r .position) e (r .ready .is-sound) h) ∙ sym is ∙ set;
+      }
+
+-- ---- one resident passed
+
+module _ (m : Memory) (size e : ℕ) (r : EntryReady m size e) (t : Bool) (t-is : t ≡ residentAt (m .directory) e .modified) (start : Memory) (p n : ℕ) (ready : Ready start) (so-far : Flushing start p m n) (s : Standing (m .directory) p e) where
+  k : Here (residentsIn (m .directory)) p e
+  k = of-standing (m .directory) p e s
+
+  k-is : k .resident ≡ residentAt (m .directory) e
+  k-is = here-is (m .directory) p e (r .ready .is-sound) k
+
+  mark : k .resident .modified ≡ t
+  mark = ap (λ x. x .modified) k-is ∙ sym t-is
+
+  pub passes : t ≡ false → Flushing start (p + 1) m (n + 0)
+  passes clear = let z : n + 0 ≡ n = omega arith in rw z (flush-clean start ready so-far (k .here) (mark ∙ clear))
+
+  pub writes : (block : ℕ) (d store : List ℕ) → t ≡ true → block ≡ residentAt (m .directory) e .block → store ≡ putBlock size block (blockAt size (e - 1) (m .bytes)) (m .store) → Cleaned (m .directory) e d
+      → Flushing start (p + 1) (memory d (m .bytes) store) (n + 1)
+  writes block d store set b-is store-is clean =
+      let size-is : size ≡ settingsOf start .b = r .size-is ∙ ap (λ x. x .b) (so-far .kept .settings-kept) in
+      let b : block ≡ k .resident .block = b-is ∙ sym (ap (λ x. x .block) k-is) in
+      let same : store ≡ putBlock (settingsOf start .b) (k .resident .block) (blockAt (settingsOf start .b) (k .resident .held - 1) (m .bytes)) (m .store) = cc (k .entry) in
+      rw same (flush-modified start ready so-far (k .here) (mark ∙ set) (rw (k .entry) clean))
+
+-- ---- along the stack
+
+passed-entries : (l : List (Resident ℕ)) (p : ℕ) → map (λ x. x .held) (passed p l) ≡ map (λ x. x .held) l
+passed-entries [] zero = refl
+passed-entries [] (suc p) = refl
+passed-entries (x ∷ l) zero = refl
+passed-entries (x ∷ l) (suc p) = ap (λ t. x .held ∷ t) (passed-entries l p)
+
+module _ (start : Memory) (ready : Ready start) (p : ℕ) (m : Memory) (n : ℕ) (so-far : Flushing start p m n) where
+  -- the entries stand as at the start
+  entries-stay : (q : ℕ) → entryAt (residentsIn (m .directory)) q ≡ entryAt (residentsIn (start .directory)) q
+  entries-stay q = ap (λ l. entryAt l q) (so-far .residents) ∙ ap (λ l. getD l q 0) (passed-entries (residentsIn (start .directory)) p)
+
+  module _ (count : ℕ) (count-is : count ≡ length (residentsIn (start .directory))) (left : p < count) (e : ℕ) (e-is : e ≡ entryAt (residentsIn (start .directory)) p) where
+    pub standing : Standing (m .directory) p e
+    standing = record { inside = rw (flush-length start ready so-far, ← count-is) left; entry = entries-stay p ∙ sym e-is }
+
+    pub entry-ready : (size : ℕ) → size ≡ settingsOf start .b → EntryReady m size e
+    entry-ready size size-is =
+        record {
+          ready = flush-ready start ready so-far;
+          size-is = size-is ∙ ap (λ x. x .b) (sym (so-far .kept .settings-kept));
+          position = p;
+          standing = standing;
+        }
+
+    pub behind-is : (behind : ℕ)
+        → ((q : ℕ) → q < length (residentsIn (m .directory)) → entryAt (residentsIn (m .directory)) q ≡ e → behind ≡ entryAt (residentsIn (m .directory)) (q + 1))
+        → behind ≡ entryAt (residentsIn (start .directory)) (p + 1)
+    behind-is behind next = next p (standing .inside) (standing .entry) ∙ entries-stay (p + 1)
+
+-- no more than 4096 residents
+pub residents-few : (m : Memory) → Ready m → length (residentsIn (m .directory)) ≤ 4096
+residents-few m ready = omega (arith, sound-residents (m .directory) (ready .is-sound) .few, sound-legal (m .directory) (ready .is-sound) .few-blocks)
