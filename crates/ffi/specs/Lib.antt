@@ -1,2 +1,4 @@
 pub mod Named
 pub mod NamedLaws
+pub mod Looked
+pub mod LookedLaws
