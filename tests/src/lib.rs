@@ -10,6 +10,19 @@ mod ffi {
         pub fn fbr_fresh(
             n: u32, nnew: u32, nold: u32, cmax: u32, amax: u32, b: u32, m: u32, dir: *mut u32, len: usize,
         ) -> u32;
+        pub fn fbr_batch(
+            dir: *mut u32, dir_len: usize, data: *mut u8, data_len: usize, store: *mut u8, store_len: usize,
+            work: *const u32, work_len: usize, incoming: *const u8, incoming_len: usize, answers: *mut u32,
+            answers_len: usize, outgoing: *mut u8, outgoing_len: usize,
+        ) -> u32;
+        pub fn fbr_look_number(
+            dir: *const u32, dir_len: usize, data: *const u8, data_len: usize, store: *const u8, store_len: usize,
+            block: u32,
+        ) -> u32;
+        pub fn fbr_look_into(
+            dir: *const u32, dir_len: usize, data: *const u8, data_len: usize, store: *const u8, store_len: usize,
+            block: u32, out: *mut u8, out_len: usize,
+        ) -> usize;
         pub fn fbr_sound(dir: *const u32, len: usize) -> u32;
         pub fn fbr_hash(block: u32) -> u32;
         pub fn fbr_buckets(n: u32) -> u32;
@@ -39,9 +52,52 @@ pub struct Settings {
 /// The settings of the examples and of the program.
 pub const BELT: Settings = Settings { n: 4, nnew: 1, nold: 2, cmax: 3, amax: 100, b: 8, m: 64 };
 
+/// The library, to be run beside the plain stack.
+pub const LIBRARY: reference::beside::Tested = reference::beside::Tested { fresh, batch, sound };
+
 /// Writes a fresh directory over `dir`, or returns 1 to 5.
 pub fn fresh(s: Settings, dir: &mut [u32]) -> u32 {
     unsafe { ffi::fbr_fresh(s.n, s.nnew, s.nold, s.cmax, s.amax, s.b, s.m, dir.as_mut_ptr(), dir.len()) }
+}
+
+/// Runs a batch of work words and returns 0, or changes nothing and returns 6 to 11.
+#[inline]
+pub fn batch(
+    dir: &mut [u32], data: &mut [u8], store: &mut [u8], work: &[u32], incoming: &[u8], answers: &mut [u32],
+    outgoing: &mut [u8],
+) -> u32 {
+    unsafe {
+        ffi::fbr_batch(
+            dir.as_mut_ptr(),
+            dir.len(),
+            data.as_mut_ptr(),
+            data.len(),
+            store.as_mut_ptr(),
+            store.len(),
+            work.as_ptr(),
+            work.len(),
+            incoming.as_ptr(),
+            incoming.len(),
+            answers.as_mut_ptr(),
+            answers.len(),
+            outgoing.as_mut_ptr(),
+            outgoing.len(),
+        )
+    }
+}
+
+/// The number of a look at a block: 0, or 6, 7 or 9.
+#[inline]
+pub fn look_number(dir: &[u32], data: &[u8], store: &[u8], block: u32) -> u32 {
+    let (d, b, s) = (dir.as_ptr(), data.as_ptr(), store.as_ptr());
+    unsafe { ffi::fbr_look_number(d, dir.len(), b, data.len(), s, store.len(), block) }
+}
+
+/// The length of the part that holds the block's present bytes; the part at the front of `out` if it fits there.
+#[inline]
+pub fn look_into(dir: &[u32], data: &[u8], store: &[u8], block: u32, out: &mut [u8]) -> usize {
+    let (d, b, s) = (dir.as_ptr(), data.as_ptr(), store.as_ptr());
+    unsafe { ffi::fbr_look_into(d, dir.len(), b, data.len(), s, store.len(), block, out.as_mut_ptr(), out.len()) }
 }
 
 /// Whether the directory is sound.

@@ -1,7 +1,8 @@
 -- Places of blocks in a sound directory: the residents that they name have entries within 1 to N and blocks below M.
-use Prim.Native.Nat.{ℕ, _+_, _-_, _*_, _≤_, _<_}
-use mathlib.Core.Path.{_≡_}
-use mathlib.Core.List.{List}
+use Prim.Native.Nat.{ℕ, zero, suc, _+_, _-_, _*_, _≤_, _<_}
+use native.Mathlib.Omega.{arith}
+use mathlib.Core.Path.{_≡_, refl}
+use mathlib.Core.List.{List, [], _∷_, map}
 use mathlib.Core.Option.{some}
 use lib.ListN.{length, getElem?}
 use lib.Dec.{T}
@@ -11,7 +12,7 @@ use Rattle.settings.specs.NumbersLaws.{old-fits}
 use Rattle.stack.specs.Recency.{Resident, Place}
 use Rattle.stack.specs.PlaceLaws.{Placed, hits, enters, replaces, placed, all-found}
 use Rattle.stack.specs.EntriesLaws.{Fit}
-use Rattle.layout.specs.Sound.{settingsIn, sound, residentsIn}
+use Rattle.layout.specs.Sound.{settingsIn, sound, order, residentAt, residentsIn}
 use Rattle.layout.specs.SoundLaws.{sound-legal, sound-residents}
 use Rattle.promises.specs.DirectoryPromises.{placeOf}
 use Rattle.promises.specs.Demand3.{Memory}
@@ -44,6 +45,16 @@ pub store-room : (m : Memory) → Ready m → (b : ℕ) → b < settingsOf m .m 
 store-room m ready b inside = block-room (settingsOf m .b) b (settingsOf m .m) (m .store) inside (ready .store-long)
 
 -- ---- residents by position, as a flush or a purge finds them
+
+-- the resident at a position, by its entry
+pub at-entry : (w : List ℕ) (p : ℕ) (x : Resident ℕ) → getElem? (residentsIn w) p ≡ some x → x ≡ residentAt w (x .held)
+unfolding residentAt
+at-entry w p x q = go (order w) p q
+  where
+    go : (l : List ℕ) (p : ℕ) → getElem? (map (residentAt w) l) p ≡ some x → x ≡ residentAt w (x .held)
+    go [] p q = let z : _≡_ {A = ℕ} 0 1 = cc in absurd (omega arith)
+    go (e ∷ l) zero q = let r : residentAt w e ≡ x = cc in rw (← r) refl
+    go (e ∷ l) (suc p) q = go l p q
 
 module _ (m : Memory) (ready : Ready m) (p : ℕ) {x : Resident ℕ} (at : getElem? (residentsIn (m .directory)) p ≡ some x) where
   pub resident-fit : Fit (settingsOf m) x

@@ -13,10 +13,9 @@ use Rattle.layout.specs.Sound.{sound, residentAt, residentsIn}
 use Rattle.layout.specs.SoundLaws.{sound-legal, sound-residents}
 use Rattle.promises.specs.DirectoryPromises.{Cleaned, entryAt}
 use Rattle.promises.specs.Demand3.{Memory}
-use Rattle.operations.specs.Reads.{at-entry}
 use Rattle.directory.specs.Ready.{CleanReady}
 use Rattle.cache_steps.specs.Carried.{settingsOf, memory, Ready}
-use Rattle.cache_steps.specs.Places.{resident-fit, resident-entry, resident-block}
+use Rattle.cache_steps.specs.Places.{at-entry, resident-fit, resident-entry, resident-block}
 use Rattle.cache_steps.specs.FlushLists.{passed}
 use Rattle.cache_steps.specs.FlushStep.{Flushing, flush-clean, flush-modified, flush-length, flush-ready}
 use Rattle.flushing.specs.Standing.{Standing, EntryReady}
@@ -37,8 +36,8 @@ of-standing : (w : List ℕ) (p e : ℕ) → Standing w p e → Here (residentsI
 of-standing w p e s = found (residentsIn w) p e (s .inside) (s .entry)
 
 -- by the words of its entry
-here-is : (w : List ℕ) (p e : ℕ) → T (sound w) → (h : Here (residentsIn w) p e) → h .resident ≡ residentAt w e
-here-is w p e ok h = at-entry w ok p (h .resident) (h .here) ∙ ap (residentAt w) (h .entry)
+here-is : (w : List ℕ) (p e : ℕ) → (h : Here (residentsIn w) p e) → h .resident ≡ residentAt w e
+here-is w p e h = at-entry w p (h .resident) (h .here) ∙ ap (residentAt w) (h .entry)
 
 -- ---- one resident: room for its bytes, and its mark
 
@@ -53,7 +52,7 @@ module _ (m : Memory) (size e : ℕ) (r : EntryReady m size e) where
   entry-room = rw (r .size-is, ← h .entry) (resident-entry m (r .ready) (r .position) (h .here))
 
   pub block-room : (block : ℕ) → block ≡ residentAt (m .directory) e .block → block * size + size ≤ length (m .store)
-  block-room block b = rw (r .size-is, b, ← here-is (m .directory) (r .position) e (r .ready .is-sound) h) (resident-block m (r .ready) (r .position) (h .here))
+  block-room block b = rw (r .size-is, b, ← here-is (m .directory) (r .position) e h) (resident-block m (r .ready) (r .position) (h .here))
 
   pub clean-ready : (t : Bool) → t ≡ residentAt (m .directory) e .modified → t ≡ true → CleanReady (m .directory) e
   clean-ready t is set =
@@ -63,7 +62,7 @@ module _ (m : Memory) (size e : ℕ) (r : EntryReady m size e) where
         resident = h .resident;
         here = h .here;
         entry = h .entry;
-        modified = ap (λ x. x .modified) (here-is (m .directory) (r .position) e (r .ready .is-sound) h) ∙ sym is ∙ set;
+        modified = ap (λ x. x .modified) (here-is (m .directory) (r .position) e h) ∙ sym is ∙ set;
       }
 
 -- ---- one resident passed
@@ -73,7 +72,7 @@ module _ (m : Memory) (size e : ℕ) (r : EntryReady m size e) (t : Bool) (t-is 
   k = of-standing (m .directory) p e s
 
   k-is : k .resident ≡ residentAt (m .directory) e
-  k-is = here-is (m .directory) p e (r .ready .is-sound) k
+  k-is = here-is (m .directory) p e k
 
   mark : k .resident .modified ≡ t
   mark = ap (λ x. x .modified) k-is ∙ sym t-is

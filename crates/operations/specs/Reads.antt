@@ -111,13 +111,3 @@ module _ (w : List ℕ) (h : T (sound w)) where
       let a : Entry s e = entry-of (g .order) p e l here (alive s D (g .order) (g .unused) (g .directory .linked)) in
       view-get s w D (g .directory .view) TO-TAIL e (wordOf (base s) e TO-TAIL) (address s TO-TAIL e (wordOf (base s) e TO-TAIL) (omega arith) a refl)
       ∙ rw entries-are (next-of (D TO-TAIL) (D TO-TAIL 0) (g .order) p e (g .directory .linked .stack .ring .fwd) l here)
-
-  -- the resident at a position, by its entry
-  pub at-entry : (p : ℕ) (x : Resident ℕ) → getElem? (residentsIn w) p ≡ some x → x ≡ residentAt w (x .held)
-  unfolding residentAt
-  at-entry p x q = go (order w) p q
-    where
-      go : (l : List ℕ) (p : ℕ) → getElem? (map (residentAt w) l) p ≡ some x → x ≡ residentAt w (x .held)
-      go [] p q = let z : _≡_ {A = ℕ} 0 1 = cc in absurd (omega arith)
-      go (e ∷ l) zero q = let r : residentAt w e ≡ x = cc in rw (← r) refl
-      go (e ∷ l) (suc p) q = go l p q

@@ -1,0 +1,223 @@
+//! A cache under test beside the plain stack: the same calls to both, and everything compared after each.
+use super::builder::Plan;
+use super::directory::{entry, header, kind, settings_of, value, Map, VALUE_BITS};
+use super::settings::directory_length;
+use super::stack::{self, answer, work, Lent, PlainStack};
+use super::{fast_judge, judge};
+use crate::Settings;
+use std::hint::black_box;
+
+pub type Batch = fn(&mut [u32], &mut [u8], &mut [u8], &[u32], &[u8], &mut [u32], &mut [u8]) -> u32;
+
+/// The functions under test.
+#[derive(Clone, Copy)]
+pub struct Tested {
+    pub fresh: fn(Settings, &mut [u32]) -> u32,
+    pub batch: Batch,
+    pub sound: fn(&[u32]) -> bool,
+}
+
+/// What a batch brings, with the earlier contents of its buffers, and how far data and store are lent.
+#[derive(Clone, Debug)]
+pub struct Call {
+    pub lent: Lent,
+    pub work: Vec<u32>,
+    pub incoming: Vec<u8>,
+    pub answers: Vec<u32>,
+    pub outgoing: Vec<u8>,
+}
+
+/// Returned numbers, answers by kind and answers with counts halved, each counted.
+#[derive(Clone, Debug, Default, PartialEq, Eq)]
+pub struct Seen {
+    pub numbers: [u64; 12],
+    pub answers: [u64; 7],
+    pub halved: u64,
+    pub written_out: u64,
+    pub most_chains: u32,
+    pub highest_victim: u32,
+}
+
+impl Seen {
+    pub fn add(&mut self, other: &Seen) {
+        self.numbers.iter_mut().zip(other.numbers).for_each(|(sum, times)| *sum += times);
+        self.answers.iter_mut().zip(other.answers).for_each(|(sum, times)| *sum += times);
+        self.halved += other.halved;
+        self.written_out += other.written_out;
+        self.most_chains = self.most_chains.max(other.most_chains);
+        self.highest_victim = self.highest_victim.max(other.highest_victim);
+    }
+
+    fn answered(&mut self, w: u32) {
+        self.answers[kind(w) as usize] += 1;
+        match kind(w) {
+            answer::HIT | answer::ENTERED => self.halved += u64::from(value(w) >= answer::HALVED),
+            answer::REPLACED => {
+                self.written_out += u64::from(value(w) >= answer::WRITTEN_OUT);
+                self.most_chains = self.most_chains.max(value(w) / answer::CHAIN % 128);
+                self.highest_victim = self.highest_victim.max(value(w) % answer::CHAIN);
+            }
+            _ => {}
+        }
+    }
+}
+
+pub struct Beside {
+    tested: Tested,
+    pub dir: Vec<u32>,
+    pub data: Vec<u8>,
+    pub store: Vec<u8>,
+    pub stack: PlainStack,
+    /// Whether the quadratic judge is asked too.
+    pub judged: bool,
+    pub seen: Seen,
+    /// Of the last accepted batch.
+    pub last_answers: Vec<u32>,
+}
+
+impl Beside {
+    /// Starts a list: an accepted fresh over `earlier` words and any data.
+    pub fn fresh(tested: Tested, s: Settings, earlier: Vec<u32>, data: Vec<u8>, store: Vec<u8>) -> Beside {
+        let mut dir = earlier.clone();
+        assert_eq!((tested.fresh)(s, &mut dir), 0, "fresh declined {s:?}");
+        let length = directory_length(s) as usize;
+        assert!(dir[length..] == earlier[length..], "fresh changed words past the directory: {s:?}");
+        let stack = PlainStack::new(s, store.clone());
+        let beside =
+            Beside { tested, dir, data, store, stack, judged: true, seen: Seen::default(), last_answers: vec![] };
+        beside.check_state("fresh");
+        beside
+    }
+
+    /// Starts from a plan's directory, with the plain stack of the same residents; `past` follows the directory.
+    pub fn built(tested: Tested, plan: &Plan, past: &[u32], data: Vec<u8>, store: Vec<u8>) -> Beside {
+        let b = plan.settings.b as usize;
+        let held = |(p, &e): (usize, &u32)| stack::Resident {
+            block: plan.residents[p].block,
+            count: plan.residents[p].count,
+            modified: plan.residents[p].modified == 1,
+            bytes: data[(e as usize - 1) * b..e as usize * b].to_vec(),
+        };
+        let mut stack = PlainStack::new(plan.settings, store.clone());
+        stack.residents = plan.arrangement.entries.iter().enumerate().map(held).collect();
+        let t = plan.totals;
+        (stack.reads, stack.writes, stack.ins, stack.outs) = (t.reads, t.writes, t.ins, t.outs);
+        let dir = [&plan.build(), past].concat();
+        let beside =
+            Beside { tested, dir, data, store, stack, judged: true, seen: Seen::default(), last_answers: vec![] };
+        beside.check_state("a built directory");
+        beside
+    }
+
+    /// Goes on from where another list stands.
+    pub fn taken(tested: Tested, dir: Vec<u32>, data: Vec<u8>, stack: PlainStack) -> Beside {
+        let store = stack.store.clone();
+        Beside { tested, dir, data, store, stack, judged: false, seen: Seen::default(), last_answers: vec![] }
+    }
+
+    /// The same batch to both; the number returned. Untouched parts are compared as well: buffers are compared whole.
+    pub fn call(&mut self, call: &Call) -> u32 {
+        let (mut answers, mut outgoing) = (call.answers.clone(), call.outgoing.clone());
+        let expected = self.stack.batch(call.lent, &call.work, &call.incoming, &mut answers, &mut outgoing);
+        self.run(call, expected, &answers, &outgoing)
+    }
+
+    /// The batch over other directory words, which are not sound: 6, and nothing changes.
+    pub fn call_over(&mut self, unsound: Vec<u32>, call: &Call) {
+        assert!(!judge::sound(&unsound) && !fast_judge::sound(&unsound), "the damage left the directory sound");
+        let dir = std::mem::replace(&mut self.dir, unsound);
+        self.run(call, 6, &call.answers, &call.outgoing);
+        self.dir = dir;
+    }
+
+    fn run(&mut self, call: &Call, expected: u32, expected_answers: &[u32], expected_outgoing: &[u8]) -> u32 {
+        let before = (self.dir.clone(), self.data.clone(), self.store.clone());
+        let (mut answers, mut outgoing) = (call.answers.clone(), call.outgoing.clone());
+        let (mut work, mut incoming) = (call.work.clone(), call.incoming.clone());
+        let number = (self.tested.batch)(
+            &mut self.dir,
+            &mut self.data[..call.lent.data],
+            &mut self.store[..call.lent.store],
+            &work,
+            &incoming,
+            &mut answers,
+            &mut outgoing,
+        );
+        black_box((&mut work, &mut incoming));
+        let told = || format!("{:?}, {:?}, work {:x?}", self.stack.settings, call.lent, call.work);
+        assert_eq!(number, expected, "the number returned: {}", told());
+        assert!(work == call.work && incoming == call.incoming, "work or incoming changed: {}", told());
+        assert!(answers == expected_answers, "answers {answers:x?}, not {expected_answers:x?}: {}", told());
+        assert!(outgoing == expected_outgoing, "outgoing bytes: {}", told());
+        self.seen.numbers[number as usize] += 1;
+        if number != 0 {
+            assert!(self.dir == before.0, "a refused batch changed the directory: {}", told());
+            assert!(self.data == before.1 && self.store == before.2, "a refused batch changed bytes: {}", told());
+            return number;
+        }
+        self.check_state(&told());
+        let s = self.stack.settings;
+        let length = directory_length(s) as usize;
+        assert!(self.dir[..header::RESIDENTS] == before.0[..header::RESIDENTS], "settings words changed: {}", told());
+        assert!(self.dir[length..] == before.0[length..], "words past the directory changed: {}", told());
+        self.check_other_bytes(&before.1, call, &outgoing);
+        answers.truncate(call.work.len());
+        answers.iter().for_each(|&w| self.seen.answered(w));
+        self.last_answers = answers;
+        0
+    }
+
+    /// Residents along the stack links with their bytes from the data buffer, store, totals and soundness.
+    fn check_state(&self, told: &str) {
+        let s = settings_of(&self.dir);
+        assert_eq!(s, self.stack.settings, "settings words: {told}");
+        let sound = fast_judge::sound(&self.dir) && (!self.judged || judge::sound(&self.dir));
+        assert!(sound, "the directory is not sound after {told}");
+        assert!((self.tested.sound)(&self.dir), "the library calls its own directory unsound after {told}");
+        let residents = residents(&self.dir, &self.data);
+        assert!(residents == self.stack.residents, "residents {residents:?}, not {:?}: {told}", self.stack.residents);
+        assert!(self.store == self.stack.store, "store: {told}");
+        let lows = [header::READS_LOW, header::WRITES_LOW, header::INS_LOW, header::OUTS_LOW];
+        let stack = &self.stack;
+        let totals = [stack.reads, stack.writes, stack.ins, stack.outs];
+        assert_eq!(lows.map(|low| total(&self.dir, low)), totals, "totals: {told}");
+    }
+
+    /// Data past N × B stays; bytes of an entry that is unused now stay, or came with this batch.
+    fn check_other_bytes(&self, before: &[u8], call: &Call, outgoing: &[u8]) {
+        let s = self.stack.settings;
+        let (map, b) = (Map::of(s), s.b as usize);
+        let owned = s.n as usize * b;
+        assert!(self.data[owned..] == before[owned..], "data past N x B changed");
+        let of_kind = |k: u32| call.work.iter().filter(|&&w| kind(w) == k).count() * b;
+        let came = || outgoing[..of_kind(work::READ)].chunks(b).chain(call.incoming[..of_kind(work::WRITE)].chunks(b));
+        for e in 1..=s.n {
+            let place = (e as usize - 1) * b..e as usize * b;
+            let now = &self.data[place.clone()];
+            let unused = value(self.dir[map.entry(e, entry::COUNT)]) == 0;
+            let kept = !unused || *now == before[place] || came().any(|bytes| bytes == now);
+            assert!(kept, "bytes of unused entry {e}: {s:?}, work {:x?}", call.work);
+        }
+    }
+}
+
+fn total(dir: &[u32], low: usize) -> u64 {
+    u64::from(value(dir[low])) + (u64::from(value(dir[low + 1])) << VALUE_BITS)
+}
+
+/// The residents of a sound directory, read off along the stack links.
+pub fn residents(dir: &[u32], data: &[u8]) -> Vec<stack::Resident> {
+    let s = settings_of(dir);
+    let (map, b) = (Map::of(s), s.b as usize);
+    let (mut residents, mut e) = (Vec::new(), value(dir[header::HEAD]));
+    while e != 0 {
+        residents.push(stack::Resident {
+            block: value(dir[map.entry(e, entry::BLOCK)]),
+            count: value(dir[map.entry(e, entry::COUNT)]),
+            modified: value(dir[map.entry(e, entry::MODIFIED)]) == 1,
+            bytes: data[(e as usize - 1) * b..e as usize * b].to_vec(),
+        });
+        e = value(dir[map.entry(e, entry::TOWARDS_TAIL)]);
+    }
+    residents
+}

@@ -1,0 +1,321 @@
+//! The cache over the directory's own links, with the promises of the scope and the check before every batch: what a
+//! careful Rust programmer would write, and the mark that the library's batches are timed against.
+use super::builder::Totals;
+use super::directory::{entry, header, settings_of, Map};
+use super::directory::{LINK, MAX_VALUE, MIDDLE, NEW, NUMBER, OLD, VALUE_BITS};
+use super::fast_judge;
+use super::fnv;
+use super::settings::{sum_limit, MAX_COUNT};
+use super::stack::{answer, work, MOST_TOTAL};
+use crate::Settings;
+
+mod links;
+#[cfg(test)]
+mod tests;
+
+/// Runs a batch and returns 0, or changes nothing and returns 6 to 11.
+pub fn batch(
+    dir: &mut [u32], data: &mut [u8], store: &mut [u8], work: &[u32], incoming: &[u8], answers: &mut [u32],
+    outgoing: &mut [u8],
+) -> u32 {
+    let s = match settings_if_whole(dir, data.len(), store.len()) {
+        Ok(s) => s,
+        Err(number) => return number,
+    };
+    let number = refusal(dir, s, work, incoming.len(), answers.len(), outgoing.len());
+    if number != 0 {
+        return number;
+    }
+    let mut cache = Cache::over(s, dir, data, store);
+    let b = cache.s.b as usize;
+    let (mut incoming, mut outgoing) = (incoming.chunks_exact(b), outgoing.chunks_exact_mut(b));
+    for (answer, &w) in answers.iter_mut().zip(work) {
+        let block = w & MAX_VALUE;
+        *answer = match w >> VALUE_BITS {
+            work::READ => cache.read(block, outgoing.next().unwrap()),
+            work::WRITE => cache.write(block, incoming.next().unwrap()),
+            work::PURGE => cache.purge(block),
+            _ => cache.flush(),
+        };
+    }
+    cache.put_totals();
+    0
+}
+
+/// The part that holds the block's present bytes, or 6, 7 or 9.
+pub fn look<'a>(dir: &[u32], data: &'a [u8], store: &'a [u8], block: u32) -> Result<&'a [u8], u32> {
+    let s = settings_if_whole(dir, data.len(), store.len())?;
+    if block >= s.m {
+        return Err(9);
+    }
+    let b = s.b as usize;
+    Ok(match find(dir, Map::of(s), block) {
+        Some(e) => &data[(e as usize - 1) * b..e as usize * b],
+        None => &store[block as usize * b..(block as usize + 1) * b],
+    })
+}
+
+/// The settings of a sound directory with data and store long enough, or 6 or 7.
+fn settings_if_whole(dir: &[u32], data: usize, store: usize) -> Result<Settings, u32> {
+    if !fast_judge::sound(dir) {
+        return Err(6);
+    }
+    let s = settings_of(dir);
+    let b = s.b as usize;
+    if data < s.n as usize * b || store < s.m as usize * b {
+        return Err(7);
+    }
+    Ok(s)
+}
+
+/// The numbers 8 to 11.
+fn refusal(dir: &[u32], s: Settings, work: &[u32], incoming: usize, answers: usize, outgoing: usize) -> u32 {
+    if work.len() > work::MOST_WORDS {
+        return 8;
+    }
+    let (mut reads, mut writes) = (0, 0);
+    for &w in work {
+        let value = w & MAX_VALUE;
+        let well_formed = match w >> VALUE_BITS {
+            work::READ | work::WRITE | work::PURGE => value < s.m,
+            work::FLUSH => value == 0,
+            _ => false,
+        };
+        if !well_formed {
+            return 9;
+        }
+        reads += usize::from(w >> VALUE_BITS == work::READ);
+        writes += usize::from(w >> VALUE_BITS == work::WRITE);
+    }
+    let b = s.b as usize;
+    if answers < work.len() || incoming < writes * b || outgoing < reads * b {
+        return 10;
+    }
+    let references = total(dir, header::READS_LOW) + total(dir, header::WRITES_LOW);
+    if references + work.len() as u64 > MOST_TOTAL {
+        return 11;
+    }
+    0
+}
+
+fn total(dir: &[u32], low: usize) -> u64 {
+    u64::from(dir[low] & MAX_VALUE) | u64::from(dir[low + 1] & MAX_VALUE) << VALUE_BITS
+}
+
+fn bucket_of(map: Map, block: u32) -> usize {
+    map.bucket(fnv::of_block(block) as usize & (map.buckets() - 1))
+}
+
+fn find(dir: &[u32], map: Map, block: u32) -> Option<u32> {
+    let mut e = dir[bucket_of(map, block)] & MAX_VALUE;
+    while e != 0 {
+        if dir[map.entry(e, entry::BLOCK)] & MAX_VALUE == block {
+            return Some(e);
+        }
+        e = dir[map.entry(e, entry::SYNONYM)] & MAX_VALUE;
+    }
+    None
+}
+
+/// The first position of a section, the word that names the resident there, and the section.
+type Boundary = (u32, usize, u32);
+
+struct Cache<'a> {
+    words: &'a mut [u32],
+    data: &'a mut [u8],
+    store: &'a mut [u8],
+    s: Settings,
+    map: Map,
+    boundaries: [Boundary; 2],
+    sum_limit: u64,
+    totals: Totals,
+}
+
+impl<'a> Cache<'a> {
+    fn over(s: Settings, dir: &'a mut [u32], data: &'a mut [u8], store: &'a mut [u8]) -> Cache<'a> {
+        let totals = Totals {
+            reads: total(dir, header::READS_LOW),
+            writes: total(dir, header::WRITES_LOW),
+            ins: total(dir, header::INS_LOW),
+            outs: total(dir, header::OUTS_LOW),
+        };
+        let boundaries = [(s.nnew, header::AT_NNEW, MIDDLE), (s.n - s.nold, header::FIRST_OLD, OLD)];
+        Cache { words: dir, data, store, s, map: Map::of(s), boundaries, sum_limit: sum_limit(s), totals }
+    }
+    fn put_totals(&mut self) {
+        let t = self.totals;
+        let lows = [header::READS_LOW, header::WRITES_LOW, header::INS_LOW, header::OUTS_LOW];
+        for (low, total) in lows.into_iter().zip([t.reads, t.writes, t.ins, t.outs]) {
+            self.set_number(low, total as u32 & MAX_VALUE);
+            self.set_number(low + 1, (total >> VALUE_BITS) as u32);
+        }
+    }
+
+    fn at(&self, address: usize) -> u32 {
+        self.words[address] & MAX_VALUE
+    }
+    fn of(&self, e: u32, word: usize) -> u32 {
+        self.at(self.map.entry(e, word))
+    }
+    fn set_number(&mut self, address: usize, value: u32) {
+        self.words[address] = NUMBER << VALUE_BITS | value;
+    }
+    fn set_link(&mut self, address: usize, e: u32) {
+        self.words[address] = LINK << VALUE_BITS | e;
+    }
+    fn number_of(&mut self, e: u32, word: usize, value: u32) {
+        self.set_number(self.map.entry(e, word), value);
+    }
+    fn link_of(&mut self, e: u32, word: usize, to: u32) {
+        self.set_link(self.map.entry(e, word), to);
+    }
+    fn bytes_of(&self, e: u32) -> std::ops::Range<usize> {
+        let b = self.s.b as usize;
+        (e as usize - 1) * b..e as usize * b
+    }
+    fn place(&self, block: u32) -> std::ops::Range<usize> {
+        let b = self.s.b as usize;
+        block as usize * b..(block as usize + 1) * b
+    }
+
+    fn read(&mut self, block: u32, out: &mut [u8]) -> u32 {
+        self.totals.reads += 1;
+        let answer = match find(self.words, self.map, block) {
+            Some(e) => self.hit(e),
+            None => {
+                let answer = self.enter(block);
+                let (bytes, place) = (self.bytes_of(self.at(header::HEAD)), self.place(block));
+                self.data[bytes].copy_from_slice(&self.store[place]);
+                self.totals.ins += 1;
+                answer
+            }
+        };
+        out.copy_from_slice(&self.data[self.bytes_of(self.at(header::HEAD))]);
+        self.halved_after(answer)
+    }
+
+    fn write(&mut self, block: u32, bytes: &[u8]) -> u32 {
+        self.totals.writes += 1;
+        let answer = match find(self.words, self.map, block) {
+            Some(e) => self.hit(e),
+            None => self.enter(block),
+        };
+        let e = self.at(header::HEAD);
+        let place = self.bytes_of(e);
+        self.data[place].copy_from_slice(bytes);
+        self.number_of(e, entry::MODIFIED, 1);
+        self.halved_after(answer)
+    }
+
+    fn hit(&mut self, e: u32) -> u32 {
+        let count = self.of(e, entry::COUNT);
+        let rises = self.of(e, entry::SECTION) != NEW && count < MAX_COUNT;
+        self.move_to_front(e);
+        self.recount(e, count + u32::from(rises));
+        answer::HIT << VALUE_BITS | (count + u32::from(rises))
+    }
+
+    /// The block's entry is at position 0 afterwards, count 1 and unmodified; its bytes are still to come.
+    fn enter(&mut self, block: u32) -> u32 {
+        let (e, answer) = match self.at(header::FIRST_UNUSED) {
+            0 => self.take_victim(),
+            e => {
+                self.set_link(header::FIRST_UNUSED, self.of(e, entry::TOWARDS_TAIL));
+                self.put_in_front(e);
+                (e, answer::ENTERED << VALUE_BITS)
+            }
+        };
+        self.recount(e, 1);
+        self.number_of(e, entry::BLOCK, block);
+        self.number_of(e, entry::MODIFIED, 0);
+        let bucket = bucket_of(self.map, block);
+        self.link_of(e, entry::SYNONYM, self.at(bucket));
+        self.set_link(bucket, e);
+        answer
+    }
+
+    fn take_victim(&mut self) -> (u32, u32) {
+        let (victim, chains) = self.victim();
+        let block = self.of(victim, entry::BLOCK);
+        let mut value = block + answer::CHAIN * chains;
+        if self.of(victim, entry::MODIFIED) == 1 {
+            self.write_out(victim);
+            value += answer::WRITTEN_OUT;
+        }
+        self.unlist(victim);
+        self.move_to_front(victim);
+        (victim, answer::REPLACED << VALUE_BITS | value)
+    }
+
+    /// A chain's tail has the greatest position of its count: if it isn't old, none of the chain is.
+    fn victim(&self) -> (u32, u32) {
+        for count in 1..=self.s.cmax {
+            let last = self.at(self.map.chain_tail(count));
+            if last != 0 && self.of(last, entry::SECTION) == OLD {
+                return (last, count);
+            }
+        }
+        (self.at(header::TAIL), self.s.cmax)
+    }
+
+    fn purge(&mut self, block: u32) -> u32 {
+        let Some(e) = find(self.words, self.map, block) else {
+            return answer::ABSENT << VALUE_BITS;
+        };
+        let modified = self.of(e, entry::MODIFIED);
+        self.leave(e);
+        self.recount(e, 0);
+        self.unlist(e);
+        for word in [entry::BLOCK, entry::SECTION, entry::MODIFIED] {
+            self.number_of(e, word, 0);
+        }
+        self.link_of(e, entry::TOWARDS_HEAD, 0);
+        self.link_of(e, entry::SYNONYM, 0);
+        self.link_of(e, entry::TOWARDS_TAIL, self.at(header::FIRST_UNUSED));
+        self.set_link(header::FIRST_UNUSED, e);
+        answer::PURGED << VALUE_BITS | modified
+    }
+
+    fn flush(&mut self) -> u32 {
+        let mut written = 0;
+        let mut e = self.at(header::HEAD);
+        while e != 0 {
+            if self.of(e, entry::MODIFIED) == 1 {
+                self.write_out(e);
+                self.number_of(e, entry::MODIFIED, 0);
+                written += 1;
+            }
+            e = self.of(e, entry::TOWARDS_TAIL);
+        }
+        answer::FLUSHED << VALUE_BITS | written
+    }
+
+    fn write_out(&mut self, e: u32) {
+        let (bytes, place) = (self.bytes_of(e), self.place(self.of(e, entry::BLOCK)));
+        self.store[place].copy_from_slice(&self.data[bytes]);
+        self.totals.outs += 1;
+    }
+
+    fn halved_after(&mut self, answer: u32) -> u32 {
+        if u64::from(self.at(header::SUM)) <= self.sum_limit {
+            return answer;
+        }
+        for count in 1..=self.s.cmax {
+            self.set_link(self.map.chain_head(count), 0);
+            self.set_link(self.map.chain_tail(count), 0);
+        }
+        let (mut sum, mut e) = (0, self.at(header::TAIL));
+        // from the tail, so that each one goes to the head of its chain
+        while e != 0 {
+            let count = self.of(e, entry::COUNT).div_ceil(2);
+            self.number_of(e, entry::COUNT, count);
+            sum += count;
+            if count <= self.s.cmax {
+                self.push(&self.chain(count), e);
+            }
+            e = self.of(e, entry::TOWARDS_HEAD);
+        }
+        self.set_number(header::SUM, sum);
+        answer + answer::HALVED
+    }
+}

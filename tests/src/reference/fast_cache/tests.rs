@@ -1,0 +1,44 @@
+//! The linked cache beside the plain stack.
+use super::{batch, look};
+use crate::reference::beside::{Seen, Tested};
+use crate::reference::directory::fresh_words;
+use crate::reference::rng::Rng;
+use crate::reference::{fast_judge, histories};
+use crate::Settings;
+
+fn fresh(s: Settings, dir: &mut [u32]) -> u32 {
+    let words = fresh_words(s);
+    dir[..words.len()].copy_from_slice(&words);
+    0
+}
+
+const PLAIN: Tested = Tested { fresh, batch, sound: fast_judge::sound };
+
+#[test]
+fn random_histories() {
+    let mut rng = Rng::announced("random_histories", 61);
+    let mut seen = Seen::default();
+    for history in 0..800 {
+        let n = rng.within(1, 24);
+        let s = histories::settings(&mut rng, n);
+        let mut beside = match history % 2 {
+            0 => histories::fresh(&mut rng, PLAIN, s),
+            _ => histories::built(&mut rng, PLAIN, s),
+        };
+        histories::go_on(&mut rng, &mut beside, 8, 50);
+        seen.add(&beside.seen);
+        // a look gives what a read would give
+        for block in 0..s.m {
+            let resident = beside.stack.residents.iter().find(|resident| resident.block == block);
+            let place = (block * s.b) as usize..((block + 1) * s.b) as usize;
+            let expected = resident.map_or(&beside.store[place], |resident| &resident.bytes);
+            assert_eq!(look(&beside.dir, &beside.data, &beside.store, block), Ok(expected));
+        }
+        assert_eq!(look(&beside.dir, &beside.data, &beside.store, s.m), Err(9));
+        assert_eq!(look(&beside.dir, &[], &beside.store, s.m), Err(7));
+        assert_eq!(look(&beside.dir[1..], &[], &beside.store, s.m), Err(6));
+    }
+    println!("{seen:?}");
+    assert!(seen.answers[1..].iter().all(|&times| times > 500) && seen.halved > 500);
+    assert!([0, 6, 7, 8, 9, 10, 11].into_iter().all(|number| seen.numbers[number] > 20), "{seen:?}");
+}

@@ -1,0 +1,182 @@
+//! The examples of the scope, those with a letter and the others, each beside the plain stack.
+use cache_tests::reference::beside::{Beside, Call};
+use cache_tests::reference::builder::{Arrangement, Plan, Resident, Totals};
+use cache_tests::reference::directory::{fresh_words, header, kind, value, word};
+use cache_tests::reference::rng::Rng;
+use cache_tests::reference::settings::directory_length;
+use cache_tests::reference::stack::{answer, work, Lent};
+use cache_tests::reference::{fast_judge, histories};
+use cache_tests::{batch, fresh, Settings, BELT, LIBRARY};
+
+const ONE: Settings = Settings { n: 1, nnew: 0, nold: 1, cmax: 1, amax: 10, b: 8, m: 64 };
+
+fn start(s: Settings, seed: u64) -> Beside {
+    histories::fresh(&mut Rng::announced("an example", seed), LIBRARY, s)
+}
+fn reads(blocks: &[u32]) -> Vec<u32> {
+    blocks.iter().map(|&block| word(work::READ, block)).collect()
+}
+/// An accepted batch, compared with the plain stack's; the answers as kind and value.
+fn run(beside: &mut Beside, work: &[u32]) -> Vec<(u32, u32)> {
+    let call = exact(beside, work);
+    assert_eq!(beside.call(&call), 0);
+    beside.last_answers.iter().map(|&w| (kind(w), value(w))).collect()
+}
+fn exact(beside: &Beside, work: &[u32]) -> Call {
+    let b = beside.stack.settings.b as usize;
+    let incoming = (0..work.len() * b).map(|i| (i / b + 1) as u8).collect();
+    let (answers, outgoing) = (vec![0; work.len()], vec![0; work.len() * b]);
+    Call { lent: beside.stack.whole(), work: work.to_vec(), incoming, answers, outgoing }
+}
+fn blocks(beside: &Beside) -> Vec<u32> {
+    beside.stack.residents.iter().map(|resident| resident.block).collect()
+}
+
+#[test]
+fn a_and_b() {
+    let mut belt = start(BELT, 201);
+    let answers = run(&mut belt, &reads(&[10, 11, 12, 13, 10, 10, 14]));
+    assert_eq!(answers, [(2, 0), (2, 0), (2, 0), (2, 0), (1, 2), (1, 2), (3, 262_155)]);
+    assert_eq!((value(belt.dir[header::READS_LOW]), value(belt.dir[header::INS_LOW])), (7, 5));
+    let answers = run(&mut belt, &reads(&[15, 16, 17, 18]));
+    let victims: Vec<u32> = answers.iter().map(|answer| answer.1 % answer::CHAIN).collect();
+    assert!(answers.iter().all(|answer| answer.0 == 3));
+    assert_eq!(victims, [12, 13, 14, 15]);
+    assert!(blocks(&belt).contains(&10));
+}
+
+/// Block 10, count 2, stands at position 3 when 14 leaves.
+#[test]
+fn b_word_by_word() {
+    let mut belt = start(BELT, 202);
+    run(&mut belt, &reads(&[10, 11, 12, 13, 10, 10, 14, 15, 16]));
+    assert_eq!((belt.stack.residents[3].block, belt.stack.residents[3].count), (10, 2));
+    assert_eq!(run(&mut belt, &reads(&[17])), [(3, 14 + answer::CHAIN)]);
+    assert_eq!(run(&mut belt, &reads(&[18])), [(3, 15 + answer::CHAIN)]);
+}
+
+#[test]
+fn c_to_f() {
+    let mut two = start(Settings { n: 2, nnew: 0, nold: 1, cmax: 1, amax: 1, b: 8, m: 64 }, 203);
+    assert_eq!(run(&mut two, &reads(&[0, 0, 0]))[2], (1, 67_108_867));
+    assert_eq!(two.stack.residents[0].count, 2);
+    assert_eq!(value(two.dir[header::SUM]), 2);
+
+    assert_eq!(run(&mut start(ONE, 204), &reads(&[0, 0, 1]))[2], (3, 262_144));
+
+    let mut one = start(ONE, 205);
+    assert_eq!(run(&mut one, &[word(work::WRITE, 3), word(work::READ, 5)])[1], (3, 33_816_579));
+    assert_eq!((value(one.dir[header::INS_LOW]), value(one.dir[header::OUTS_LOW])), (1, 1));
+    assert_eq!(one.store[24..32], [1; 8]);
+
+    let mut one = start(ONE, 206);
+    let (write, purge) = (word(work::WRITE, 3), word(work::PURGE, 3));
+    assert_eq!(run(&mut one, &[write, purge, purge]), [(2, 0), (4, 1), (5, 0)]);
+}
+
+#[test]
+fn g_and_h() {
+    let mut belt = start(BELT, 207);
+    let mut words = reads(&[10, 11, 12, 13]);
+    words.extend([word(work::PURGE, 13), word(work::READ, 12)]);
+    assert_eq!(run(&mut belt, &words)[5], (1, 1));
+
+    let mut belt = start(BELT, 208);
+    let before = (belt.dir.clone(), belt.data.clone(), belt.store.clone());
+    assert_eq!(run(&mut belt, &[]), []);
+    assert!((belt.dir, belt.data, belt.store) == before);
+}
+
+/// The same example over words written by hand: no helper of the histories is used.
+#[test]
+fn a_by_hand() {
+    let mut dir = vec![0; 70];
+    assert_eq!(fresh(BELT, &mut dir), 0);
+    let (mut data, mut store) = (vec![9; 32], (0..512).map(|i| (i / 8) as u8).collect::<Vec<u8>>());
+    let work = [10, 11, 12, 13, 10, 10, 14].map(|block| 0x1000_0000 + block);
+    let (mut answers, mut outgoing) = ([0; 7], [0; 56]);
+    assert_eq!(batch(&mut dir, &mut data, &mut store, &work, &[], &mut answers, &mut outgoing), 0);
+    let entered = 0x2000_0000;
+    assert_eq!(answers, [entered, entered, entered, entered, 0x1000_0002, 0x1000_0002, 0x3000_0000 + 262_155]);
+    let bytes: Vec<u8> = [10, 11, 12, 13, 10, 10, 14].into_iter().flat_map(|block| [block; 8]).collect();
+    assert_eq!(outgoing[..], bytes);
+    assert!(fast_judge::sound(&dir));
+}
+
+#[test]
+fn sections_as_wide_as_the_cache() {
+    let mut dir = vec![0; directory_length(BELT) as usize];
+    assert_eq!(fresh(Settings { nnew: 2, ..BELT }, &mut dir), 0);
+    assert_eq!(dir, fresh_words(Settings { nnew: 2, ..BELT }));
+    assert_eq!(fresh(Settings { nnew: 3, ..BELT }, &mut dir), 2);
+}
+
+#[test]
+fn words_of_a_batch() {
+    let mut belt = start(BELT, 209);
+    let call = exact(&belt, &reads(&[3; 1_025]));
+    assert_eq!(belt.call(&call), 8);
+    let answers = run(&mut belt, &reads(&[3; 1_024]));
+    // position 0 is new: no hit raises the count
+    assert!(answers[0] == (2, 0) && answers[1..].iter().all(|&answer| answer == (1, 1)));
+}
+
+#[test]
+fn a_count_of_65_535_stays() {
+    let s = Settings { n: 100, nnew: 1, nold: 1, cmax: 3, amax: 1_000, b: 8, m: 64 };
+    let resident = |block, count| Resident { block, count, modified: 0 };
+    let plan = Plan {
+        settings: s,
+        residents: vec![resident(7, 1), resident(9, 65_534), resident(8, 20_000)],
+        totals: Totals::default(),
+        arrangement: Arrangement { entries: vec![50, 2, 9], unused: rest(&[50, 2, 9]), synonyms: vec![0, 1, 2] },
+    };
+    let mut beside = histories::built_of(&mut Rng::announced("a_count_of_65_535_stays", 210), LIBRARY, &plan);
+    let answers = run(&mut beside, &reads(&[9, 7, 9, 7, 9]));
+    assert_eq!(answers, [(1, 65_535), (1, 2), (1, 65_535), (1, 3), (1, 65_535)]);
+    assert_eq!(beside.stack.residents[0].count, 65_535);
+
+    // the same from fresh: 65,536 reads, the first of which enters
+    let mut beside = start(Settings { nnew: 0, ..s }, 211);
+    for _ in 0..64 {
+        run(&mut beside, &reads(&[7; 1_024]));
+    }
+    assert_eq!(run(&mut beside, &reads(&[7])), [(1, 65_535)]);
+}
+fn rest(taken: &[u32]) -> Vec<u32> {
+    (1..=100).rev().filter(|e| !taken.contains(e)).collect()
+}
+
+/// Each number on its limit, and every condition that comes later met as well.
+#[test]
+fn numbers_in_the_order_of_the_table() {
+    let mut belt = start(BELT, 212);
+    let whole = Lent { data: 32, store: 512 };
+    let call = |lent: Lent, work: Vec<u32>, incoming: usize, answers: usize, outgoing: usize| Call {
+        lent,
+        work,
+        incoming: vec![5; incoming],
+        answers: vec![6; answers],
+        outgoing: vec![7; outgoing],
+    };
+    let (read, write) = (word(work::READ, 63), word(work::WRITE, 63));
+    let many = vec![word(0, 0); 1_025];
+    let mut number = |call: Call| belt.call(&call);
+    assert_eq!(number(call(Lent { data: 31, ..whole }, many.clone(), 0, 0, 0)), 7);
+    assert_eq!(number(call(Lent { store: 511, ..whole }, many.clone(), 0, 0, 0)), 7);
+    assert_eq!(number(call(Lent { data: 0, store: 0 }, vec![], 0, 0, 0)), 7);
+    assert_eq!(number(call(whole, many, 0, 0, 0)), 8);
+    let wrong = [word(0, 1), word(5, 1), word(15, 1), word(1, 64), word(2, 64), word(3, 64), word(4, 1)];
+    for w in wrong {
+        assert_eq!(number(call(whole, vec![w], 0, 0, 0)), 9, "{w:#x}");
+        assert_eq!(number(call(whole, vec![read, write, w], 8, 3, 8)), 9, "{w:#x}");
+    }
+    assert_eq!(number(call(whole, vec![read], 0, 0, 8)), 10);
+    assert_eq!(number(call(whole, vec![read], 0, 1, 7)), 10);
+    assert_eq!(number(call(whole, vec![write], 7, 1, 0)), 10);
+    assert_eq!(number(call(whole, vec![read, write], 8, 2, 8)), 0);
+    let damaged = [&belt.dir[..7], &[0], &belt.dir[8..]].concat();
+    belt.call_over(damaged, &call(Lent { data: 0, store: 0 }, vec![0; 1_025], 0, 0, 0));
+    println!("numbers returned: {:?}", belt.seen.numbers);
+    assert_eq!(belt.seen.numbers, [1, 0, 0, 0, 0, 0, 1, 3, 1, 14, 3, 0]);
+}
