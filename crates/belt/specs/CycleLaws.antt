@@ -1,0 +1,121 @@
+-- From the promises of fresh and of a batch to belt cycle's outcome, by demand 3 over a list of one call.
+use Prim.Native.Nat.{ℕ, suc, _+_, _*_}
+use native.Mathlib.Omega.{arith}
+use mathlib.Core.Path.{_≡_, refl, sym, ap, subst, _∙_}
+use mathlib.Core.List.{List, [], _∷_, map}
+use lib.ListN.{length, take, drop, replicate, length-replicate, length-map}
+use lib.Seq.{take-all, take-length}
+use Rattle.settings.specs.declared.Settings.{Settings}
+use Rattle.settings.specs.Numbers.{settingsNumber}
+use Rattle.settings.specs.Buckets.{buckets}
+use Rattle.stack.specs.Stack.{Plain, Work, Step, answerWord, empty, plainStep}
+use Rattle.stack.specs.Batch.{Call, work, isWrite, run, plainRun, batch}
+use Rattle.stack.specs.BatchLaws.{batch-accepted}
+use Rattle.stack.specs.Examples.{belt}
+use Rattle.layout.specs.Layout.{freshNumber}
+use Rattle.layout.specs.Sound.{view, totalsIn}
+use Rattle.promises.specs.Promises.{over, Fresh, Slices, Batch}
+use Rattle.promises.specs.Demand3.{Memory, Lending, lends, asCall, starts, Follows, end, call}
+use Rattle.promises.specs.Demand3Laws.{demand3}
+use Rattle.belt.specs.Belt.{incomingBytes}
+use Rattle.belt.specs.declared.Outcome.{Outcome}
+use Rattle.belt.specs.Cycles.{beltStart, beltCall, beltResult, ReadOff, Cycled}
+
+-- ---- one batch from a fresh directory
+
+-- What a batch from fresh memory gives, as the plain stack has it.
+pub record One (words answers : List ℕ) (k : Plain) (call : Call) (n : ℕ) (after : Slices) : Type 0 where
+  pub number : n ≡ batch k call .number
+  pub answered : after .answers ≡ over (map answerWord (batch k call .ran .answers)) answers
+  pub totals : totalsIn (after .directory) ≡ batch k call .ran .after .totals
+
+module _ (s : Settings) (before d words incoming bytes store answers outgoing : List ℕ) (n : ℕ) (after : Slices) where
+  abbrev m : Memory
+  m = record { directory = d; bytes = bytes; store = store }
+
+  abbrev c : Lending
+  c =
+      record {
+        words = words;
+        incoming = incoming;
+        answers = answers;
+        outgoing = outgoing;
+        bytesLength = length bytes;
+        storeLength = length store;
+      }
+
+  abbrev lent : Slices
+  lent = record { directory = d; bytes = bytes; store = store; answers = answers; outgoing = outgoing }
+
+  lends-all : lends m c ≡ lent
+  lends-all = rw (take-length bytes, take-length store)
+
+  from-follows : Follows (drop (s .m * s .b) store) m (starts s store) (c ∷ []) ((n, after) ∷ []) → One words answers (starts s store) (asCall c) n after
+  unfolding view
+  from-follows (call a g (end e)) = record { number = g .number; answered = g .answers; totals = ap (λ k. k .totals) (e .same) }
+
+  pub one-batch : Fresh s before 0 d → Batch words incoming lent n after → One words answers (starts s store) (asCall c) n after
+  one-batch f b =
+      from-follows (demand3 s before d bytes store (c ∷ []) ((n, after) ∷ []) f (call (omega arith) (omega arith) (subst (λ t. Batch words incoming t n after) (sym lends-all) b) end))
+
+-- ---- as many answers as words
+
+module _ {K W : Type 0} (doing : K → W → List ℕ → Step K) (workOf : W → Work) (B : ℕ) where
+  length-answers : (k : K) (ws : List W) (incoming : List ℕ) → length (run doing workOf B k ws incoming .answers) ≡ length ws
+  unfolding run
+  length-answers k [] incoming = refl
+  length-answers k (w ∷ ws) incoming = ap suc (length-answers (doing k w (take B incoming) .after) ws (drop (isWrite (workOf w) * B) incoming))
+
+batch-answers : (k : Plain) (c : Call) → batch k c .number ≡ 0 → length (batch k c .ran .answers) ≡ length (c .words)
+unfolding batch plainRun
+batch-answers k c e =
+    ap (λ r. length (r .answers)) (batch-accepted k c e)
+    ∙ length-answers plainStep (λ w. w) (k .settings .b) k (map (work (k .settings)) (c .words)) (c .incoming)
+    ∙ length-map (c .words) (work (k .settings))
+
+-- ---- the belt's
+
+-- the plain stack's start, from a store of zeros
+starts-zero : (store : List ℕ) → store ≡ replicate 512 0 → starts belt store ≡ beltStart
+unfolding beltStart
+starts-zero store e =
+    ap (λ l. starts belt l) e
+    ∙ ap (λ l. empty belt l) (take-all 512 (replicate 512 0) (omega (arith, length-replicate {A = ℕ} 512 0)))
+
+-- a directory of 70 words is long enough
+accepted-fresh : (before d : List ℕ) (f : ℕ) → length before ≡ 70 → Fresh belt before f d → Fresh belt before 0 d
+unfolding freshNumber settingsNumber buckets
+accepted-fresh before d f e p =
+    let z : f ≡ 0 = p .returned ∙ ap (λ n. freshNumber belt n) e in
+    subst (λ x. Fresh belt before x d) z p
+
+-- what was lent
+pub record Lent (before incoming bytes store outgoing : List ℕ) : Type 0 where
+  pub directory-long : length before ≡ 70
+  pub incoming-is : incoming ≡ incomingBytes
+  pub bytes-long : length bytes ≡ 32
+  pub store-zero : store ≡ replicate 512 0
+  pub outgoing-long : length outgoing ≡ 8192
+
+module _ (work answers before d incoming bytes store outgoing : List ℕ) (after : Slices) (f n : ℕ) (c : Outcome) where
+  from-one : ReadOff work (after .directory) n c → One work answers beltStart (beltCall work (length answers)) n after → Cycled work answers c (after .answers)
+  unfolding beltResult
+  from-one r o =
+      record {
+        number = r .number ∙ o .number;
+        words = r .words;
+        answered = λ z. r .words ∙ sym (batch-answers beltStart (beltCall work (length answers)) (sym (r .number ∙ o .number) ∙ z));
+        answers = o .answered;
+        moves = r .moves ∙ ap (λ t. t .ins + t .outs) (o .totals);
+        references = r .references ∙ ap (λ t. t .reads + t .writes) (o .totals);
+      }
+
+  pub belt-cycled : Fresh belt before f d
+      → Batch work incoming (record { directory = d; bytes = bytes; store = store; answers = answers; outgoing = outgoing }) n after
+      → ReadOff work (after .directory) n c
+      → Lent before incoming bytes store outgoing
+      → Cycled work answers c (after .answers)
+  belt-cycled p b r l = from-one r (rw (calls, starts-zero store (l .store-zero)) at (one-batch belt before d work incoming bytes store answers outgoing n after (accepted-fresh before d f (l .directory-long) p) b))
+    where
+      calls : asCall (record { words = work; incoming = incoming; answers = answers; outgoing = outgoing; bytesLength = length bytes; storeLength = length store }) ≡ beltCall work (length answers)
+      calls = rw (l .incoming-is, l .bytes-long, l .store-zero, length-replicate {A = ℕ} 512 0, l .outgoing-long)

@@ -1,0 +1,4 @@
+pub mod Belt
+pub mod BeltLaws
+pub mod Cycles
+pub mod CycleLaws
