@@ -1,0 +1,142 @@
+//! The forms that document 01 names stand where docs/DECISIONS.md says: this reads the sources.
+use std::fs;
+use std::path::{Path, PathBuf};
+
+fn root() -> PathBuf {
+    PathBuf::from(env!("CARGO_MANIFEST_DIR")).join("..")
+}
+
+fn source(name: &str) -> String {
+    let path = root().join("crates").join(name);
+    fs::read_to_string(&path).unwrap_or_else(|e| panic!("{}: {e}", path.display()))
+}
+
+/// Every file below a folder.
+fn files(folder: &Path) -> Vec<PathBuf> {
+    let mut all = vec![];
+    for entry in fs::read_dir(folder).unwrap() {
+        let path = entry.unwrap().path();
+        if path.is_dir() {
+            all.extend(files(&path));
+        } else {
+            all.push(path);
+        }
+    }
+    all
+}
+
+/// The text of a function, from its name to the line of its closing brace.
+fn function<'a>(text: &'a str, name: &str) -> &'a str {
+    let start = text.find(name).unwrap_or_else(|| panic!("no {name}"));
+    let line = &text[text[..start].rfind('\n').map_or(0, |i| i + 1)..];
+    let indent = line.len() - line.trim_start_matches(' ').len();
+    let closing = format!("\n{}}}\n", " ".repeat(indent));
+    &text[start..start + text[start..].find(&closing).unwrap()]
+}
+
+#[test]
+fn callers_of_lookup_take_the_entry_by_let_else() {
+    let mut callers = 0;
+    for path in files(&root().join("crates")) {
+        if path.extension().is_none_or(|e| e != "rt") {
+            continue;
+        }
+        let text = fs::read_to_string(&path).unwrap();
+        for line in text.lines().filter(|line| line.contains("directory::lookup(")) {
+            let line = line.trim();
+            assert!(
+                line.starts_with("let Found::At(e) = directory::lookup(") && line.ends_with("else {"),
+                "{}: {line}",
+                path.display()
+            );
+            callers += 1;
+        }
+    }
+    assert_eq!(callers, 3, "a read or write, a purge, a look");
+    let layout = source("layout/src/lib.rt");
+    assert!(layout.contains("pub enum Found {\n    At(u32),\n    Absent,\n}"));
+}
+
+#[test]
+fn bucket_count_by_leading_zeros() {
+    let settings = source("settings/src/lib.rt");
+    assert!(function(&settings, "fn buckets(n: u32)").contains("u32::leading_zeros(n - 1)"));
+    assert!(source("settings/specs/BucketLaws.antt").contains("pub buckets-least"));
+}
+
+#[test]
+fn named_settings_belong_to_the_settings_type() {
+    let settings = source("settings/src/lib.rt");
+    let impl_settings = function(&settings, "impl Settings {");
+    for (constant, of_n) in [("UNIX", "unix"), ("C51", "c51"), ("CUST11", "cust11")] {
+        assert!(impl_settings.contains(&format!("pub const {constant}: ")), "{constant}");
+        assert!(impl_settings.contains(&format!("pub fn {of_n}(n: u32, b: u32, m: u32) -> Settings")), "{of_n}");
+    }
+}
+
+#[test]
+fn multiply_that_wraps_on_purpose() {
+    let fnv = source("fnv/src/lib.rt");
+    let multiply = function(&fnv, "pub fn wrapping_mul(a: u32, b: u32) -> u32");
+    assert!(multiply.contains("(a as u64) * (b as u64) % 4294967296"));
+    assert!(function(&fnv, "fn step(").contains("wrapping_mul("));
+    assert!(source("directory/src/lib.rt").contains("fnv::hash(block) % settings::buckets(n)"));
+}
+
+#[test]
+fn words_are_slices_of_u32() {
+    let cache = source("cache/src/lib.rt");
+    let batch = function(&cache, "pub fn batch(");
+    for parameter in ["dir: &mut [u32]", "work: &[u32]", "answers: &mut [u32]", "store: &mut [u8]", "incoming: &[u8]"] {
+        assert!(batch.contains(parameter), "{parameter}");
+    }
+    assert!(source("fresh/src/lib.rt").contains("pub fn fresh(s: Settings, dir: &mut [u32]) -> u32"));
+}
+
+#[test]
+fn a_look_returns_a_part_of_one_of_two_slices() {
+    let looks = source("looks/src/lib.rt");
+    assert!(looks.contains("pub fn look<'a>(dir: &[u32], bytes: &'a [u8], store: &'a [u8], block: u32) -> &'a [u8]"));
+}
+
+/// The cache cites the directory's promises and the layout, and nothing of what is under the directory.
+#[test]
+fn the_cache_never_sees_a_link() {
+    let under = [
+        "operations", "word_ops", "linkage", "links", "check_model", "lists", "search", "values", "stack_moves",
+        "count_moves", "bucket_moves", "misses", "totals", "purging", "halving",
+    ];
+    for name in ["cache_steps", "flushing", "accesses", "cache", "looks"] {
+        for path in files(&root().join("crates").join(name)) {
+            let text = fs::read_to_string(&path).unwrap();
+            for part in under {
+                let cited = text.contains(&format!("Rattle.{part}.")) || text.contains(&format!("{part}::"));
+                assert!(!cited, "{} cites {part}", path.display());
+            }
+        }
+    }
+}
+
+/// Calls that anyone may make ask for nothing.
+#[test]
+fn entry_points_have_no_requires() {
+    for (file, name) in [
+        ("fresh/src/lib.rt", "pub fn fresh("),
+        ("cache/src/lib.rt", "pub fn batch("),
+        ("looks/src/lib.rt", "pub fn look<'a>("),
+        ("numbers/src/lib.rt", "pub fn look_number("),
+        ("soundness/src/lib.rt", "pub fn sound("),
+        ("belt/src/lib.rt", "pub fn cycle("),
+    ] {
+        let text = source(file);
+        let entry = function(&text, name);
+        assert!(entry.contains("ensures") && !entry.contains("requires"), "{name}");
+    }
+    let ffi = source("ffi/src/lib.rt");
+    let exported = ffi.matches("#[no_mangle]").count();
+    assert_eq!(exported, 8);
+    for part in ffi.split("#[no_mangle]").skip(1) {
+        let head = &part[..part.find("\n{").unwrap()];
+        assert!(head.contains("ensures") && !head.contains("requires"), "{head}");
+    }
+}
