@@ -5,27 +5,27 @@ use native.Mathlib.Nat.{min-le-right}
 use mathlib.Core.Path.{_≡_, refl, sym, ap, subst, _∙_}
 use mathlib.Core.Bool.{Bool, true, false}
 use mathlib.Core.Option.{none, some}
-use mathlib.Core.List.{List, [], _++_}
-use lib.ListN.{length, take, drop}
+use mathlib.Core.List.{List}
+use lib.ListN.{length}
 use lib.Dec.{T}
-use Rattle.basics.specs.Basics.{if_then_else_, pick, blockAt, putBlock}
+use Rattle.basics.specs.Basics.{pick, blockAt, putBlock}
 use Rattle.settings.specs.declared.Settings.{Settings}
 use Rattle.stack.specs.Counts.{chains, victimCount}
 use Rattle.stack.specs.Recency.{Place, lookup, counts}
-use Rattle.stack.specs.Stack.{read, write, purge, Answer, hit, entered, replaced, purged, absent, flushed, answering, answerWord}
+use Rattle.stack.specs.Stack.{Answer, hit, entered, replaced, purged, absent, flushed, answering, answerWord}
 use Rattle.stack.specs.BufferLaws.{length-blockAt, length-putBlock, put-same}
 use Rattle.stack.specs.PlaceLaws.{Placed, hits, enters, replaces}
 use Rattle.layout.specs.Sound.{settingsIn, sound, residentAt, residentsIn}
 use Rattle.layout.specs.SoundLaws.{sound-legal, sound-residents}
 use Rattle.promises.specs.DirectoryPromises.{placeOf, Accessed, Purged}
 use Rattle.promises.specs.Demand3.{Memory}
-use Rattle.cache_steps.specs.Carried.{settingsOf, memory, Ready, Carried}
+use Rattle.cache_steps.specs.Carried.{settingsOf, memory}
 use Rattle.cache_steps.specs.Told.{storeAfter, bytesRead}
 use Rattle.cache_steps.specs.FrontLaws.{put-own}
 use Rattle.cache_steps.specs.Places.{placed-in, store-room}
 use Rattle.cache_steps.specs.AccessSteps.{access-least, access-entry, access-carried, victim-below, victim-block}
 use Rattle.cache_steps.specs.PurgeStep.{purge-carried, absent-carried}
-use Rattle.directory.specs.Ready.{Countable, HitReady, MissReady, EnterReady, ReplaceReady, PurgeReady}
+use Rattle.directory.specs.Ready.{HitReady, MissReady, EnterReady, PurgeReady}
 use Rattle.accesses.specs.declared.Asked.{Asked}
 use Rattle.accesses.specs.Done.{AccessReady, MissesReady, ReplacesReady, isHit, AccessDone, ReadDone, WriteDone, PurgeDone}
 

@@ -5,7 +5,6 @@ use mathlib.Core.Path.{_≡_}
 use mathlib.Core.Bool.{Bool, true, false}
 use mathlib.Core.Option.{none}
 use mathlib.Core.List.{List, []}
-use lib.ListN.{length}
 use Rattle.basics.specs.Basics.{putBlock}
 use Rattle.settings.specs.declared.Settings.{Settings}
 use Rattle.stack.specs.Recency.{lookup}

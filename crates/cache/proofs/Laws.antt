@@ -1,5 +1,5 @@
 -- What the functions ask of each other and return, over variables.
-use Prim.Native.Nat.{ℕ, suc, _+_, _-_, _*_, _/_, _%_, _^_, _≤_, _<_}
+use Prim.Native.Nat.{ℕ, _+_, _-_, _*_, _/_, _%_, _^_, _≤_, _<_}
 use native.Mathlib.Omega.{arith}
 use native.Mathlib.Nat.{one-mul}
 use native.Mathlib.Numerals.{add-one}
@@ -7,7 +7,7 @@ use mathlib.Core.Path.{_≡_, refl, sym, ap, subst, _∙_}
 use mathlib.Core.Logic.{_≢_}
 use mathlib.Core.Bool.{Bool, true, false, not}
 use mathlib.Core.List.{List, [], _∷_, _++_, map, append-nil, map-append}
-use lib.ListN.{length, take, drop, getD, set, length-map, length-set}
+use lib.ListN.{length, take, getD, set, length-map, length-set}
 use lib.Seq.{length-take-le, take-all}
 use lib.Dec.{T, eqb}
 use mir.Facts.{eqb-yes, eqb-no}
@@ -27,7 +27,6 @@ use Rattle.cache_steps.specs.GivenLaws.{carried-gives, chain-gives}
 use Rattle.cache_steps.specs.TotalsLaws.{chain-totals}
 use Rattle.cache_steps.specs.OverLaws.{over-set, over-put}
 use Rattle.cache_steps.specs.Accepts.{memoryIn, accepted}
-use Rattle.directory.specs.Ready.{Countable}
 use Rattle.accesses.specs.Done.{AccessReady, ReadDone, WriteDone, PurgeDone}
 use Rattle.cache.specs.declared.Passed.{Passed}
 use Rattle.cache.specs.Words.{WordReady, WordDone, RunReady, RunDone}

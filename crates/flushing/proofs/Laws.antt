@@ -6,10 +6,9 @@ use mathlib.Core.Bool.{Bool, true, false}
 use mathlib.Core.List.{List, [], _∷_, map}
 use mathlib.Core.Option.{some}
 use lib.ListN.{length, getD, getElem?}
-use lib.Dec.{T}
 use Rattle.basics.specs.Basics.{blockAt, putBlock}
 use Rattle.stack.specs.Recency.{Resident}
-use Rattle.layout.specs.Sound.{sound, residentAt, residentsIn}
+use Rattle.layout.specs.Sound.{residentAt, residentsIn}
 use Rattle.layout.specs.SoundLaws.{sound-legal, sound-residents}
 use Rattle.promises.specs.DirectoryPromises.{Cleaned, entryAt}
 use Rattle.promises.specs.Demand3.{Memory}

@@ -2,7 +2,7 @@ use borrow.Author.Needs.{needs}
 use native.Mathlib.Omega.{arith}
 use Prim.Native.Nat.{_-_}
 use lib.ListN.{length}
-use Rattle.cache.proofs.Laws.{Running, run-start, valid-word, passed-few, word-ready, answer-place, run-next, run-end}
+use Rattle.cache.proofs.Laws.{Running, run-start, passed-few, word-ready, answer-place, run-next, run-end}
 use Rattle.cache.proofs.run.Statement.{statement}
 use Rattle.cache.proofs.run.Tie as tie
 use Rattle.cache.proofs.run.Reads as reads
