@@ -1,0 +1,282 @@
+use crate::{fresh, sound, Answer, Memory, Refusal, Settings, Work};
+
+const BELT: Settings = Settings { n: 4, nnew: 1, nold: 2, cmax: 3, amax: 100, b: 8, m: 64 };
+const ONE: Settings = Settings { n: 1, nnew: 0, nold: 1, cmax: 1, amax: 10, b: 8, m: 64 };
+const ENTERED: Answer = Answer::Entered { halved: false };
+
+/// A fresh cache over memory of its own; block k of the store is all k.
+struct Cache {
+    b: usize,
+    directory: Vec<u32>,
+    data: Vec<u8>,
+    store: Vec<u8>,
+}
+
+impl Cache {
+    fn new(s: Settings) -> Cache {
+        let mut directory = vec![0xdead_beef; s.directory_words()];
+        assert_eq!(fresh(&s, &mut directory), Ok(()));
+        assert!(sound(&directory));
+        let b = s.b as usize;
+        let store = (0..s.store_bytes()).map(|i| (i / b) as u8).collect();
+        Cache { b, directory, data: vec![0; s.data_bytes()], store }
+    }
+    fn memory(&mut self) -> Memory<'_> {
+        Memory { directory: &mut self.directory, data: &mut self.data, store: &mut self.store }
+    }
+    /// A batch whose j-th write, j from 1, brings bytes that are all 100 + j; answers and bytes read.
+    fn run(&mut self, work: &[Work]) -> Result<(Vec<Answer>, Vec<u8>), Refusal> {
+        let b = self.b;
+        let words: Vec<u32> = work.iter().map(|w| w.word()).collect();
+        let incoming: Vec<u8> = (0..work.len() * b).map(|i| (i / b + 101) as u8).collect();
+        let (mut answers, mut outgoing) = (vec![0; work.len()], vec![0; work.len() * b]);
+        self.memory().batch(&words, &incoming, &mut answers, &mut outgoing)?;
+        assert!(sound(&self.directory));
+        outgoing.truncate(b * work.iter().filter(|w| matches!(w, Work::Read(_))).count());
+        Ok((answers.iter().map(|&word| Answer::from_word(word).unwrap()).collect(), outgoing))
+    }
+    fn answers(&mut self, work: &[Work]) -> Vec<Answer> {
+        self.run(work).unwrap().0
+    }
+    /// Reads, writes, ins and outs.
+    fn totals(&self) -> [u64; 4] {
+        let value = |i: usize| u64::from(self.directory[i] & 0x0fff_ffff);
+        [16, 18, 20, 22].map(|i| value(i) + (value(i + 1) << 28))
+    }
+}
+
+fn reads(blocks: &[u32]) -> Vec<Work> {
+    blocks.iter().map(|&block| Work::Read(block)).collect()
+}
+fn hit(count: u32) -> Answer {
+    Answer::Hit { count, halved: false }
+}
+
+#[test]
+fn example_a() {
+    let mut belt = Cache::new(BELT);
+    let (answers, outgoing) = belt.run(&reads(&[10, 11, 12, 13, 10, 10, 14])).unwrap();
+    let last = Answer::Replaced { victim: 11, chains: 1, written_out: false };
+    assert_eq!(answers, [ENTERED, ENTERED, ENTERED, ENTERED, hit(2), hit(2), last]);
+    let expected: Vec<u8> = [10, 11, 12, 13, 10, 10, 14].iter().flat_map(|&block| [block; 8]).collect();
+    assert_eq!(outgoing, expected);
+    assert_eq!(belt.totals(), [7, 0, 5, 0]);
+}
+
+#[test]
+fn example_c() {
+    let mut two = Cache::new(Settings { n: 2, nnew: 0, nold: 1, cmax: 1, amax: 1, b: 8, m: 64 });
+    let answers = two.answers(&reads(&[0, 0, 0]));
+    assert_eq!(answers, [ENTERED, hit(2), Answer::Hit { count: 3, halved: true }]);
+    // the count left is 2
+    assert_eq!(two.answers(&reads(&[0])), [Answer::Hit { count: 3, halved: true }]);
+}
+
+#[test]
+fn example_e() {
+    let mut one = Cache::new(ONE);
+    let replaced = Answer::Replaced { victim: 3, chains: 1, written_out: true };
+    assert_eq!(one.answers(&[Work::Write(3), Work::Read(5)]), [ENTERED, replaced]);
+    assert_eq!(one.totals(), [1, 1, 1, 1]);
+    assert_eq!(one.store[24..32], [101; 8]);
+}
+
+#[test]
+fn example_f() {
+    let mut one = Cache::new(ONE);
+    let answers = one.answers(&[Work::Write(3), Work::Purge(3), Work::Purge(3)]);
+    assert_eq!(answers, [ENTERED, Answer::Purged { discarded: true }, Answer::Absent]);
+    assert_eq!(one.memory().look(3).unwrap(), [3; 8]);
+}
+
+#[test]
+fn looks_after_writes() {
+    let mut belt = Cache::new(BELT);
+    belt.answers(&[Work::Write(3), Work::Write(4), Work::Write(3)]);
+    let before = (belt.directory.clone(), belt.data.clone(), belt.store.clone());
+    let memory = belt.memory();
+    for (block, byte) in [(3, 103), (4, 102), (5, 5)] {
+        assert_eq!(memory.look_number(block), Ok(()));
+        assert_eq!(memory.look(block).unwrap(), [byte; 8]);
+        let mut long = [0; 10];
+        assert_eq!(memory.look_into(block, &mut long), Ok(8));
+        assert_eq!((long[..8].to_vec(), &long[8..]), (vec![byte; 8], &[0, 0][..]));
+        let mut short = [9; 7];
+        assert_eq!(memory.look_into(block, &mut short), Ok(8));
+        assert_eq!(short, [9; 7]);
+    }
+    assert_eq!((belt.directory.clone(), belt.data.clone(), belt.store.clone()), before);
+    // the store has the written bytes after a flush, and a second flush has nothing to do
+    assert_eq!(belt.store[24..40], [[3; 8], [4; 8]].concat());
+    let flush = [Work::Flush, Work::Flush];
+    assert_eq!(belt.answers(&flush), [Answer::Flushed { written: 2 }, Answer::Flushed { written: 0 }]);
+    assert_eq!(belt.store[24..40], [[103; 8], [102; 8]].concat());
+}
+
+/// Fresh declines the settings, and the directory stays.
+fn declined(s: Settings, words: usize) -> u32 {
+    let mut directory = vec![7; words];
+    let refusal = fresh(&s, &mut directory).unwrap_err();
+    assert!(directory.iter().all(|&word| word == 7));
+    refusal.number()
+}
+
+#[test]
+fn numbers_1_to_5() {
+    assert_eq!(declined(Settings { n: 0, ..BELT }, 100), 1);
+    assert_eq!(declined(Settings { n: 4_097, ..BELT }, 100), 1);
+    assert_eq!(declined(Settings { nold: 0, ..BELT }, 100), 2);
+    assert_eq!(declined(Settings { nnew: 3, ..BELT }, 100), 2);
+    assert_eq!(declined(Settings { cmax: 65, ..BELT }, 100), 3);
+    assert_eq!(declined(Settings { amax: 0, ..BELT }, 100), 3);
+    assert_eq!(declined(Settings { b: 4_097, ..BELT }, 100), 4);
+    assert_eq!(declined(Settings { m: 262_145, ..BELT }, 100), 4);
+    assert_eq!(declined(BELT, BELT.directory_words() - 1), 5);
+    assert_eq!(declined(BELT, 0), 5);
+}
+
+#[test]
+fn numbers_6_to_11() {
+    let number = |cache: &mut Cache, work: &[u32], incoming: usize, answers: usize, outgoing: usize| {
+        let before = (cache.directory.clone(), cache.data.clone(), cache.store.clone());
+        let (mut answers, mut outgoing) = (vec![7; answers], vec![7; outgoing]);
+        let refusal = cache.memory().batch(work, &vec![1; incoming], &mut answers, &mut outgoing).unwrap_err();
+        assert!((&cache.directory, &cache.data, &cache.store) == (&before.0, &before.1, &before.2));
+        assert!(answers.iter().all(|&word| word == 7) && outgoing.iter().all(|&byte| byte == 7));
+        refusal.number()
+    };
+    let mut belt = Cache::new(BELT);
+    let work = [Work::Write(1), Work::Read(2)].map(Work::word);
+
+    for incoming_answers_outgoing in [[7, 2, 8], [8, 1, 8], [8, 2, 7], [0, 0, 0]] {
+        let [incoming, answers, outgoing] = incoming_answers_outgoing;
+        assert_eq!(number(&mut belt, &work, incoming, answers, outgoing), 10);
+    }
+    let wrong = [Work::Read(64), Work::Write(1 << 28), Work::Purge(u32::MAX)].map(Work::word);
+    for word in wrong.into_iter().chain([0, 5 << 28, 4 << 28 | 1]) {
+        assert_eq!(number(&mut belt, &[word], 8, 1, 8), 9, "{word:#x}");
+    }
+    assert_eq!(number(&mut belt, &[Work::Flush.word(); 1_025], 0, 1_025, 0), 8);
+    assert_eq!(belt.answers(&[Work::Flush; 1_024]).len(), 1_024);
+
+    belt.data.pop();
+    assert_eq!(number(&mut belt, &work, 8, 2, 8), 7);
+    assert_eq!(belt.memory().look(1), Err(Refusal::ShortDataOrStore));
+    belt.data.push(0);
+    belt.store.pop();
+    assert_eq!(number(&mut belt, &work, 8, 2, 8), 7);
+    belt.store.push(63);
+    assert_eq!(belt.memory().look(64), Err(Refusal::BadWord));
+    assert_eq!(belt.memory().look_number(u32::MAX), Err(Refusal::BadWord));
+
+    // reads and writes at 2^56 - 2 have room for one word
+    let full = 1 << 28 | 0x0fff_ffff;
+    (belt.directory[16], belt.directory[17]) = (full - 1, full);
+    assert!(sound(&belt.directory));
+    assert_eq!(number(&mut belt, &work, 8, 2, 8), 11);
+    assert_eq!(belt.answers(&[Work::Read(2)]), [ENTERED]);
+    assert_eq!(number(&mut belt, &[Work::Flush.word()], 0, 1, 0), 11);
+    assert_eq!(belt.memory().look(2).unwrap(), [2; 8]);
+
+    belt.directory[8] ^= 1;
+    assert!(!sound(&belt.directory));
+    assert_eq!(number(&mut belt, &work, 8, 2, 8), 6);
+    assert_eq!(belt.memory().look(1), Err(Refusal::Unsound));
+    assert_eq!(belt.memory().look_into(1, &mut [0; 8]), Err(Refusal::Unsound));
+    assert!(!sound(&[]));
+}
+
+/// The present bytes of all blocks.
+fn all_blocks(cache: &mut Cache) -> Vec<u8> {
+    let memory = cache.memory();
+    (0..BELT.m).flat_map(|block| memory.look(block).unwrap()).collect()
+}
+fn written_belt() -> Cache {
+    let mut belt = Cache::new(BELT);
+    let writes = [3, 4, 5, 6, 7, 3].map(Work::Write);
+    belt.answers(&writes);
+    belt
+}
+
+#[test]
+fn kept_memory_goes_on() {
+    let mut belt = written_belt();
+    let (directory, data, store) = (belt.directory.clone(), belt.data.clone(), belt.store.clone());
+    let mut kept = Cache { b: belt.b, directory, data, store };
+    let work = [reads(&[3, 20, 7]), vec![Work::Write(9), Work::Flush]].concat();
+    assert_eq!(kept.run(&work), belt.run(&work));
+    assert_eq!(all_blocks(&mut kept), all_blocks(&mut belt));
+}
+
+#[test]
+fn the_store_alone_after_a_flush() {
+    let mut belt = written_belt();
+    let present = all_blocks(&mut belt);
+    assert_ne!(belt.store, present);
+    belt.answers(&[Work::Flush]);
+    assert_eq!(belt.store, present);
+    fresh(&BELT, &mut belt.directory).unwrap();
+    belt.data.fill(0);
+    assert_eq!(all_blocks(&mut belt), present);
+}
+
+/// Where a flush is refused with 11, looks still give what is unsaved.
+#[test]
+fn looks_save_a_full_cache() {
+    let mut belt = written_belt();
+    let present = all_blocks(&mut belt);
+    (belt.directory[16], belt.directory[17]) = (1 << 28 | 0x0fff_ffff, 1 << 28 | 0x0fff_ffff);
+    assert_eq!(belt.run(&[Work::Flush]), Err(Refusal::TotalsFull));
+    belt.store = all_blocks(&mut belt);
+    fresh(&BELT, &mut belt.directory).unwrap();
+    assert_eq!(all_blocks(&mut belt), present);
+    assert_eq!(belt.answers(&reads(&[3])), [ENTERED]);
+}
+
+#[test]
+fn refusals_and_their_numbers() {
+    for (i, refusal) in Refusal::ALL.into_iter().enumerate() {
+        assert_eq!(refusal.number(), i as u32 + 1);
+        assert_eq!(Refusal::from_number(refusal.number()), Some(refusal));
+        assert!(refusal.to_string().starts_with(&format!("{}: ", i + 1)));
+    }
+    for number in [0, 12, u32::MAX] {
+        assert_eq!(Refusal::from_number(number), None);
+    }
+}
+
+#[test]
+fn named_settings_and_sizes() {
+    let unix = Settings::unix(512, 4_096, 65_536);
+    assert_eq!(unix, Settings { n: 512, nnew: 128, nold: 307, cmax: 8, amax: 100, b: 4_096, m: 65_536 });
+    assert_eq!((unix.directory_words(), unix.data_bytes(), unix.store_bytes()), (5_160, 2_097_152, 268_435_456));
+    let c51 = Settings::c51(512, 4_096, 65_536);
+    assert_eq!(c51, Settings { nold: 102, cmax: 3, ..unix });
+    assert_eq!(Settings::cust11(512, 4_096, 65_536), Settings { nold: 204, ..c51 });
+    assert_eq!(Settings::unix(0, 8, 64), Settings { n: 0, nnew: 0, nold: 0, cmax: 0, amax: 0, b: 0, m: 0 });
+    let largest = Settings { n: 4_096, nnew: 1_024, nold: 2_457, cmax: 64, amax: 100, b: 4_096, m: 262_144 };
+    assert_eq!(largest.directory_words(), 41_112);
+    assert_eq!((largest.data_bytes(), largest.store_bytes()), (16_777_216, 1_073_741_824));
+    assert_eq!(BELT.directory_words(), 70);
+    assert_eq!(fresh(&largest, &mut vec![0; 41_112]), Ok(()));
+}
+
+#[test]
+fn answer_words() {
+    let cases = [
+        (1, 65_535, hit(65_535)),
+        (1, 67_108_867, Answer::Hit { count: 3, halved: true }),
+        (2, 67_108_864, Answer::Entered { halved: true }),
+        (3, 262_155, Answer::Replaced { victim: 11, chains: 1, written_out: false }),
+        (3, 33_816_579, Answer::Replaced { victim: 3, chains: 1, written_out: true }),
+        (3, 262_143 + (64 << 18), Answer::Replaced { victim: 262_143, chains: 64, written_out: false }),
+        (4, 0, Answer::Purged { discarded: false }),
+        (6, 4_096, Answer::Flushed { written: 4_096 }),
+    ];
+    for (kind, value, answer) in cases {
+        assert_eq!(Answer::from_word(kind << 28 | value), Some(answer));
+    }
+    for (kind, value) in [(0, 0), (1, 1 << 27), (2, 1), (3, 1 << 26), (4, 2), (5, 1), (7, 0), (15, 0)] {
+        assert_eq!(Answer::from_word(kind << 28 | value), None, "{kind} {value}");
+    }
+}

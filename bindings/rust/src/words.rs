@@ -1,0 +1,87 @@
+/// The largest value of a word: 28 bits.
+const MAX_VALUE: u32 = (1 << 28) - 1;
+
+/// One work word: the kind in the top 4 bits, the value in the low 28.
+#[derive(Clone, Copy, Debug, PartialEq, Eq, Hash)]
+pub enum Work {
+    /// Read a block into the next B bytes of outgoing.
+    Read(u32),
+    /// Write the next B bytes of incoming to a block.
+    Write(u32),
+    /// Take a block out of the cache. Bytes that are not in the store yet are given up.
+    Purge(u32),
+    /// Write every modified resident to the store.
+    Flush,
+}
+
+impl Work {
+    /// The word for a batch. A block that 28 bits don't hold becomes the largest value, which every batch refuses.
+    pub const fn word(self) -> u32 {
+        let (kind, value) = match self {
+            Work::Read(block) => (1, block),
+            Work::Write(block) => (2, block),
+            Work::Purge(block) => (3, block),
+            Work::Flush => (4, 0),
+        };
+        kind << 28 | if value > MAX_VALUE { MAX_VALUE } else { value }
+    }
+}
+
+/// One answer word. A batch gives one for each work word.
+#[derive(Clone, Copy, Debug, PartialEq, Eq, Hash)]
+pub enum Answer {
+    /// The block was in the cache.
+    Hit {
+        /// The block's count after any rise and before any halving.
+        count: u32,
+        /// Whether all counts were halved afterwards.
+        halved: bool,
+    },
+    /// The block took an unused entry.
+    Entered {
+        /// Whether all counts were halved afterwards.
+        halved: bool,
+    },
+    /// The cache was full, and the block took the victim's place.
+    Replaced {
+        /// The block that left.
+        victim: u32,
+        /// Count chains looked at to find it.
+        chains: u32,
+        /// Whether the victim was modified, and so was written to the store.
+        written_out: bool,
+    },
+    /// The purged block left the cache.
+    Purged {
+        /// Whether modified bytes were given up.
+        discarded: bool,
+    },
+    /// The block to purge was not in the cache.
+    Absent,
+    /// The flush was carried out.
+    Flushed {
+        /// How many blocks were written to the store.
+        written: u32,
+    },
+}
+
+impl Answer {
+    /// What an answer word says; none for a word that no batch gives.
+    pub const fn from_word(word: u32) -> Option<Answer> {
+        let (kind, value) = (word >> 28, word & MAX_VALUE);
+        let halved = value >> 26 == 1;
+        Some(match kind {
+            1 if value >> 27 == 0 => Answer::Hit { count: value % (1 << 26), halved },
+            2 if value == 0 || value == 1 << 26 => Answer::Entered { halved },
+            3 if value >> 26 == 0 => Answer::Replaced {
+                victim: value % (1 << 18),
+                chains: (value >> 18) % (1 << 7),
+                written_out: value >> 25 == 1,
+            },
+            4 if value <= 1 => Answer::Purged { discarded: value == 1 },
+            5 if value == 0 => Answer::Absent,
+            6 => Answer::Flushed { written: value },
+            _ => return None,
+        })
+    }
+}
