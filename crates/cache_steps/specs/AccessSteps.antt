@@ -6,11 +6,11 @@ use mathlib.Core.Bool.{Bool, true, false}
 use mathlib.Core.List.{List, []}
 use lib.ListN.{length, take}
 use lib.Dec.{T}
-use Rattle.basics.specs.Basics.{if_then_else_, blockAt, putBlock}
+use Rattle.basics.specs.Basics.{if_then_else_, putBlock}
 use Rattle.settings.specs.declared.Settings.{Settings}
 use Rattle.stack.specs.Counts.{chains, exceeds}
 use Rattle.stack.specs.Recency.{Place, found, unused, replacing, counts, asked, settled}
-use Rattle.stack.specs.Stack.{Work, read, write, Answer, hit, entered, replaced, leaving, savedAll, present, answering, accessTotals, access, step}
+use Rattle.stack.specs.Stack.{Work, read, write, Answer, replaced, leaving, savedAll, present, answering, accessTotals, access, step}
 use Rattle.stack.specs.Entries.{entryBytes, entryFor, filled, entryStep, Pick}
 use Rattle.stack.specs.EntriesLaws.{Entry, entry-placed}
 use Rattle.layout.specs.Sound.{totalsIn, residentsIn, view}
@@ -19,7 +19,6 @@ use Rattle.promises.specs.DirectoryPromises.{placeOf, Accessed}
 use Rattle.promises.specs.Demand3.{Memory}
 use Rattle.cache_steps.specs.Carried.{cacheOf, settingsOf, memory, Ready, Carried}
 use Rattle.cache_steps.specs.Carries.{cacheWith, carry}
-use Rattle.cache_steps.specs.FrontLaws.{put-own}
 use Rattle.cache_steps.specs.MovedLaws.{Stands, leaving-fit, Moved, put-moved, entry-room, saved-all, present-front, present-length}
 use Rattle.cache_steps.specs.Places.{placed-in, place-stands, store-room}
 use Rattle.cache_steps.specs.Told.{storeAfter, bytesRead, told}
@@ -161,41 +160,3 @@ module _ (m : Memory) (ready : Ready m) (b : ℕ) (written : Bool) where
 
   pub victim-block : {k e v n : ℕ} {out : Bool} {d : List ℕ} → Accessed k (m .directory) b written e (replaced v n out) d → v * settingsOf m .b + settingsOf m .b ≤ length (m .store)
   victim-block {v = v} accessed = store-room m ready v (victim-below accessed)
-
--- ---- the six cases
-
-module _ (m : Memory) (ready : Ready m) (b : ℕ) (inside : b < settingsOf m .m) (incoming : List ℕ) where
-  abbrev B : ℕ
-  B = settingsOf m .b
-
-  -- the bytes that a hit gives stand in the data buffer already
-  pub hit-read : {k e c : ℕ} {h : Bool} {d : List ℕ} → Accessed k (m .directory) b false e (hit c h) d → k ≤ 20
-      → Carried m (read b) incoming (memory d (m .bytes) (m .store)) (hit c h) (blockAt (settingsOf m .b) (e - 1) (m .bytes))
-  hit-read {e = e} {c = c} {h = h} {d = d} accessed few =
-      subst (λ by. Carried m (read b) incoming (memory d by (m .store)) (hit c h) (blockAt B (e - 1) (m .bytes))) (put-own B (e - 1) (m .bytes))
-      (access-carried m ready b false accessed inside incoming (λ t. absurd t) few)
-
-  pub enter-read : {k e : ℕ} {h : Bool} {d : List ℕ} → Accessed k (m .directory) b false e (entered h) d → k ≤ 20
-      → Carried m (read b) incoming (memory d (putBlock (settingsOf m .b) (e - 1) (blockAt (settingsOf m .b) b (m .store)) (m .bytes)) (m .store)) (entered h) (blockAt (settingsOf m .b) b (m .store))
-  enter-read accessed few = access-carried m ready b false accessed inside incoming (λ t. absurd t) few
-
-  -- Once the victim is written out, the block's bytes are those of the store after that.
-  pub replace-read : {k e v n : ℕ} {out : Bool} {d : List ℕ} (accessed : Accessed k (m .directory) b false e (replaced v n out) d) → k ≤ 20
-      → (let store = if out then putBlock (settingsOf m .b) v (blockAt (settingsOf m .b) (e - 1) (m .bytes)) (m .store) else m .store in
-      Carried m (read b) incoming (memory d (putBlock (settingsOf m .b) (e - 1) (blockAt (settingsOf m .b) b store) (m .bytes)) store) (replaced v n out) (blockAt (settingsOf m .b) b store))
-  replace-read accessed few = access-carried m ready b false accessed inside incoming (λ t. absurd t) few
-
-  module _ (brings : length incoming ≡ settingsOf m .b) where
-    pub hit-write : {k e c : ℕ} {h : Bool} {d : List ℕ} → Accessed k (m .directory) b true e (hit c h) d → k ≤ 20
-        → Carried m (write b) incoming (memory d (putBlock (settingsOf m .b) (e - 1) incoming (m .bytes)) (m .store)) (hit c h) []
-    hit-write accessed few = access-carried m ready b true accessed inside incoming (λ t. brings) few
-
-    pub enter-write : {k e : ℕ} {h : Bool} {d : List ℕ} → Accessed k (m .directory) b true e (entered h) d → k ≤ 20
-        → Carried m (write b) incoming (memory d (putBlock (settingsOf m .b) (e - 1) incoming (m .bytes)) (m .store)) (entered h) []
-    enter-write accessed few = access-carried m ready b true accessed inside incoming (λ t. brings) few
-
-    pub replace-write : {k e v n : ℕ} {out : Bool} {d : List ℕ} → Accessed k (m .directory) b true e (replaced v n out) d → k ≤ 20
-        → Carried m (write b) incoming
-        (memory d (putBlock (settingsOf m .b) (e - 1) incoming (m .bytes)) (if out then putBlock (settingsOf m .b) v (blockAt (settingsOf m .b) (e - 1) (m .bytes)) (m .store) else m .store))
-        (replaced v n out) []
-    replace-write accessed few = access-carried m ready b true accessed inside incoming (λ t. brings) few

@@ -1,13 +1,11 @@
 -- What number 0 gives a batch's loop: no word is invalid, and there is room for what the first words take and give.
 use Prim.Native.Nat.{ℕ, zero, suc, _+_, _-_, _*_, _/_, _%_, _^_, _≤_, _<_}
-use native.Mathlib.Nat.{add-mul, one-mul, mul-le-mul-right}
+use native.Mathlib.Nat.{add-mul, mul-le-mul-right}
 use native.Mathlib.Omega.{arith}
-use mathlib.Core.Path.{_≡_, ap, _∙_}
-use mathlib.Core.Logic.{_≢_}
+use mathlib.Core.Path.{_≡_}
 use mathlib.Core.Bool.{Bool, true, false, _&&_, _||_}
 use mathlib.Core.List.{List, [], _∷_, map}
-use lib.ListN.{length, take, drop, getD, length-drop}
-use lib.Seq.{length-take-le}
+use lib.ListN.{length, take, getD}
 use lib.Dec.{T, ltb, eqb}
 use mir.Facts.{and-yes, or-no, ltb-no, eqb-yes}
 use Rattle.basics.specs.Basics.{if_then_else_, total}
@@ -78,22 +76,12 @@ module _ (s : Settings) (t : Totals) (c : Call) (e : batchNumber s t c ≡ 0) (i
   pub valid-at : isInvalid (work s (getD (c .words) i 0)) ≡ 0
   valid-at = let g = allowed s t c e .valid in let u = up-to s isInvalid (c .words) i h in omega arith
 
-  pub not-invalid : work s (getD (c .words) i 0) ≢ invalid
-  not-invalid is = let g : isInvalid w ≡ 1 = ap isInvalid is in let v = valid-at in omega arith
-
   -- what the words before it took and gave, and it itself, are there
   pub incoming-at : howMany isWrite (map (work s) (take i (c .words))) * s .b + isWrite (work s (getD (c .words) i 0)) * s .b ≤ length (c .incoming)
   incoming-at = blocks-up-to s isWrite (c .words) i h (length (c .incoming)) (allowed s t c e .incoming)
 
   pub outgoing-at : howMany isRead (map (work s) (take i (c .words))) * s .b + isRead (work s (getD (c .words) i 0)) * s .b ≤ c .outgoingLength
   outgoing-at = blocks-up-to s isRead (c .words) i h (c .outgoingLength) (allowed s t c e .outgoing)
-
-  -- a write's bytes
-  pub brings-at : (b : ℕ) → work s (getD (c .words) i 0) ≡ write b → length (take (s .b) (drop (howMany isWrite (map (work s) (take i (c .words))) * s .b) (c .incoming))) ≡ s .b
-  brings-at b is =
-      let one : isWrite w * s .b ≡ s .b = ap (λ x. isWrite x * s .b) is ∙ one-mul (s .b) in
-      let room = incoming-at in
-      length-take-le (s .b) (drop (howMany isWrite (map (work s) (take i (c .words))) * s .b) (c .incoming)) (simp length-drop (omega arith))
 
 -- ---- a valid word of kind 1 to 3 is a read, a write or a purge
 

@@ -1,16 +1,15 @@
 -- One work word carried out over directory, data buffer and store: what it leaves, answers and gives is a step of the machine over
 -- entries. Statements only.
-use Prim.Native.Nat.{ℕ, _*_, _≤_, _<_, _^_}
+use Prim.Native.Nat.{ℕ, _*_, _≤_}
 use mathlib.Core.Path.{_≡_}
 use mathlib.Core.Bool.{Bool, true, false, not}
-use mathlib.Core.List.{List, []}
+use mathlib.Core.List.{List}
 use lib.ListN.{length, drop}
 use lib.Dec.{T}
-use Rattle.basics.specs.Basics.{if_then_else_, blockAt, putBlock}
 use Rattle.words.specs.Links.{linksChanged}
 use Rattle.settings.specs.declared.Settings.{Settings}
 use Rattle.settings.specs.Buckets.{directoryLength}
-use Rattle.stack.specs.Stack.{Work, read, write, purge, flush, invalid, Answer, Step}
+use Rattle.stack.specs.Stack.{Work, read, write, purge, flush, invalid, Answer}
 use Rattle.stack.specs.Entries.{Cache, entryStep, Pick}
 use Rattle.layout.specs.Sound.{settingsIn, sound}
 use Rattle.promises.specs.Promises.{cacheIn, halved}

@@ -126,9 +126,6 @@ module _ (start : Memory) (ready : Ready start) where
     bytes-moved : Moved (s .n * s .b) (take (s .n * s .b) (start .bytes)) (start .bytes) (m .bytes)
     bytes-moved = rw (so-far .bytes-are) (unmoved (s .n * s .b) (start .bytes))
 
-    pub flush-store-same : length (m .store) ≡ length (start .store)
-    flush-store-same = store-moved .same
-
     pub flush-ready : Ready m
     flush-ready = ready-after start ready (m .directory) (m .bytes) (m .store) (so-far .kept) (bytes-moved .same) (store-moved .same)
 

@@ -1,16 +1,12 @@
 -- A buffer whose front was written, one more piece at a time.
 use Prim.Native.Nat.{ℕ, suc, _+_, _*_, _<_}
 use native.Mathlib.Omega.{arith}
-use mathlib.Core.Path.{_≡_, refl, sym, ap, ap₂, _∙_}
+use mathlib.Core.Path.{_≡_, sym, ap, ap₂, _∙_}
 use mathlib.Core.List.{List, [], _∷_, _++_}
 use lib.ListN.{length, drop, set, length-append}
 use lib.Seq.{append-snoc, drop-cons, drop-drop, take-at, drop-append-add, set-append-seam}
 use Rattle.basics.specs.Basics.{putBlock}
 use Rattle.promises.specs.Promises.{over}
-
--- nothing written yet
-pub over-none : (buffer : List ℕ) → buffer ≡ over [] buffer
-over-none buffer = refl
 
 -- the next word, as an answer is stored
 pub over-set : (front buffer : List ℕ) (x : ℕ) → length front < length buffer → set (over front buffer) (length front) x ≡ over (front ++ (x ∷ [])) buffer

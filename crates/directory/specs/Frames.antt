@@ -4,7 +4,7 @@ use mathlib.Core.Path.{_≡_}
 use mathlib.Core.List.{List}
 use Rattle.words.specs.Words.{val}
 use Rattle.layout.specs.Addresses.{CACHE-BLOCKS, AVERAGE-LIMIT, UNUSED, BLOCK, MODIFIED}
-use Rattle.linkage.specs.Fields.{Shape, base}
+use Rattle.linkage.specs.Fields.{base}
 use Rattle.linkage.specs.WordFields.{shape}
 use Rattle.word_ops.specs.Lists.{wordOf}
 use Rattle.word_ops.specs.Victim.{victimFrom}

@@ -1,11 +1,10 @@
 -- The kinds of the directory's words (document 01, "The directory"), and the words of a fresh one. Assumes nothing.
-use Prim.Native.Nat.{ℕ, zero, suc, _+_, _-_, _*_, _%_}
+use Prim.Native.Nat.{ℕ, zero, suc, _+_, _*_}
 use mathlib.Core.List.{List, [], _∷_, _++_, map}
 use lib.ListN.{replicate}
 use lib.Dec.{ltb, eqb}
 use Rattle.basics.specs.Basics.{if_then_else_}
 use Rattle.words.specs.Words.{number, link}
-use Rattle.fnv.specs.Fnv.{fnv}
 use Rattle.settings.specs.declared.Settings.{Settings}
 use Rattle.settings.specs.Buckets.{buckets, directoryLength}
 use Rattle.settings.specs.Numbers.{settingsNumber}

@@ -1,7 +1,7 @@
 -- From fields back to words: where the fields after an operation are well linked over the words after it, those words are sound,
 -- with the same settings and the same words past them, and are read off as the fields say. Assumes nothing.
-use Prim.Native.Nat.{ℕ, _+_, _-_, _*_, _≤_, _<_}
-use mathlib.Core.Path.{_≡_, refl, _∙_, sym, ap, ap₂}
+use Prim.Native.Nat.{ℕ, _+_, _*_, _≤_, _<_}
+use mathlib.Core.Path.{_≡_, refl, _∙_, ap, ap₂}
 use mathlib.Core.List.{List, [], _∷_, map}
 use native.Mathlib.Omega.{arith}
 use lib.ListN.{drop}
@@ -9,8 +9,7 @@ use lib.Dec.{T, eqb}
 use Rattle.basics.specs.Basics.{All}
 use Rattle.links.specs.Off.{Off}
 use Rattle.words.specs.Words.{val}
-use Rattle.settings.specs.declared.Settings.{Settings}
-use Rattle.settings.specs.Buckets.{buckets, directoryLength}
+use Rattle.settings.specs.Buckets.{directoryLength}
 use Rattle.settings.specs.NumbersLaws.{LegalSettings}
 use Rattle.stack.specs.Recency.{Resident}
 use Rattle.stack.specs.Stack.{Totals}

@@ -24,7 +24,7 @@ use Rattle.word_ops.specs.Hit.{raisedCount}
 use Rattle.word_ops.specs.Halve.{half}
 use Rattle.operations.specs.FieldOps.{hitD, purgeD, enterD, replaceD}
 use Rattle.operations.specs.HalveSound.{halveD, halve-sound}
-use Rattle.operations.specs.HalveBound.{halve-blocks, halve-modified}
+use Rattle.operations.specs.HalveKeeps.{halve-blocks, halve-modified}
 use Rattle.operations.specs.HitPlaces.{here}
 use Rattle.operations.specs.Front.{once}
 use Rattle.operations.specs.Directory.{Directory}

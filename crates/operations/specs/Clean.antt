@@ -1,8 +1,8 @@
 -- A modified resident whose bytes were written out: its mark is cleared, and one block out counted. Assumes nothing.
-use Prim.Native.Nat.{ℕ, zero, suc, _+_, _-_, _*_, _^_, _≤_, _<_}
+use Prim.Native.Nat.{ℕ, zero, suc, _+_, _*_, _≤_, _<_}
 use mathlib.Core.Path.{_≡_, refl, _∙_, sym, ap, ap₂}
 use mathlib.Core.Bool.{Bool, true, false}
-use mathlib.Core.List.{List, [], _∷_, _++_, map}
+use mathlib.Core.List.{List, [], _∷_}
 use native.Mathlib.Omega.{arith}
 use mathlib.Core.Option.{some}
 use lib.Dec.{T, eqb}
@@ -11,14 +11,14 @@ use borrow.Author.Tests.{eqb-true}
 use Rattle.basics.specs.Basics.{All, pick, if_then_else_}
 use Rattle.basics.specs.Basics as basics
 use Rattle.links.specs.Upd.{upd}
-use Rattle.words.specs.Words.{val, setNumber}
+use Rattle.words.specs.Words.{setNumber}
 use Rattle.stack.specs.Recency.{Resident, counts, cleaned}
 use Rattle.layout.specs.Addresses.{COUNT, MODIFIED, READS, WRITES, INS, OUTS}
 use Rattle.layout.specs.Sound.{settingsIn, totalsIn, sound, residentsIn, view}
 use Rattle.layout.specs.SoundLaws.{sound-kept}
 use Rattle.promises.specs.DirectoryPromises.{cleanedAt, oneOut, Cleaned}
 use Rattle.linkage.specs.Fields.{Shape, base, Fields, put, entry, header, inHeader}
-use Rattle.linkage.specs.WellLinked.{WellLinked, Entry, Sum, total}
+use Rattle.linkage.specs.WellLinked.{Entry, Sum, total}
 use Rattle.linkage.specs.WellLinkedLaws.{sum-upd}
 use Rattle.linkage.specs.WordFields.{shape}
 use Rattle.word_ops.specs.Lists.{wordOf}
@@ -28,9 +28,9 @@ use Rattle.operations.specs.Stores.{view-number}
 use Rattle.operations.specs.Enter.{flags-mark}
 use Rattle.operations.specs.Totals.{raiseTotal, out-total, out-sound}
 use Rattle.operations.specs.Residents.{resident, residentsOf, alive}
-use Rattle.operations.specs.Counted.{totalsOf, same-totals}
+use Rattle.operations.specs.Counted.{same-totals}
 use Rattle.operations.specs.Stands.{Stands}
-use Rattle.operations.specs.SoundWords.{stands-of-sound, Read, read-off}
+use Rattle.operations.specs.SoundWords.{stands-of-sound, read-off}
 
 -- the fields then
 abbrev pub cleanD : Fields → ℕ → Fields

@@ -4,13 +4,13 @@ use mathlib.Core.Path.{_≡_, refl}
 use mathlib.Core.Bool.{Bool, true, false, not}
 use mathlib.Core.List.{List}
 use native.Mathlib.Omega.{arith}
-use Rattle.basics.specs.Basics.{if_then_else_, bit}
+use Rattle.basics.specs.Basics.{bit}
 use Rattle.basics.specs.Basics as basics
 use Rattle.stack.specs.Recency.{Resident, Place, found, unused, replacing}
 use Rattle.stack.specs.Stack.{Totals, accessTotals, misses, leaving, marks}
-use Rattle.layout.specs.Addresses.{READS, WRITES, INS, OUTS}
+use Rattle.layout.specs.Addresses.{READS}
 pub use Rattle.linkage.specs.Return.{totalsOf}
-use Rattle.linkage.specs.Fields.{Fields, inHeader}
+use Rattle.linkage.specs.Fields.{Fields}
 use Rattle.linkage.specs.WellLinked.{total}
 use Rattle.operations.specs.Totals.{read-total, write-total, in-total, out-total, raiseTotal}
 use Rattle.operations.specs.Miss.{accessD, missD, outIf}

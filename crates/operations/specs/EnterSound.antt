@@ -9,9 +9,8 @@ use lib.Dec.{leb}
 use lib.ListN.{length, getD, List·getD-eq-default}
 use borrow.Author.Tests.{le-leb, leb-true}
 use Rattle.basics.specs.Basics.{All}
-use Rattle.links.specs.Upd.{upd}
 use Rattle.links.specs.All.{all-at}
-use Rattle.layout.specs.Addresses.{RESIDENTS, SUM, NEW-BOUNDARY, OLD-BOUNDARY, UNUSED, BLOCK, COUNT, SECTION, MODIFIED, TO-HEAD}
+use Rattle.layout.specs.Addresses.{RESIDENTS, SUM, NEW-BOUNDARY, OLD-BOUNDARY, UNUSED, SECTION, TO-HEAD}
 use Rattle.linkage.specs.Fields.{Shape, base, Fields, header, inHeader, View, view-get}
 use Rattle.linkage.specs.Positions.{mark}
 use Rattle.linkage.specs.WellLinked.{StackOf, Entry}
@@ -85,13 +84,3 @@ enter-sound s w D residents e unused block mark small room absent marks g =
           (view-filled s w3 D3 g3 few e block mark he (omega (arith, h .legal .blocks)) (marks .0) (h .legal .hashed block));
       linked = enter-linked s D residents e unused block mark room absent marks (g .linked);
     }
-
--- what becomes of the fields that the plain stack reads
-pub enter-blocks : (s : Shape) (D : Fields) (e block mark : ℕ) → enterD s D e block mark BLOCK ≡ upd (D BLOCK) e block
-enter-blocks s D e block mark = refl
-
-pub enter-counts : (s : Shape) (D : Fields) (e block mark : ℕ) → enterD s D e block mark COUNT ≡ upd (D COUNT) e 1
-enter-counts s D e block mark = refl
-
-pub enter-modified : (s : Shape) (D : Fields) (e block mark : ℕ) → enterD s D e block mark MODIFIED ≡ upd (D MODIFIED) e mark
-enter-modified s D e block mark = refl

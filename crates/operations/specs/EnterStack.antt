@@ -30,10 +30,6 @@ abbrev pub behind : (ℕ → ℕ) → ℕ → ℕ
 behind g zero = 0
 behind g (suc i) = g i
 
-behind-add : (f g : ℕ → ℕ) (i : ℕ) → behind (λ j. f j + g j) i ≡ behind f i + behind g i
-behind-add f g zero = refl
-behind-add f g (suc i) = refl
-
 -- a mark stays but at the boundary
 mark-stays : (k i : ℕ) → ¬ (i ≡ k) → behind (mark k) i ≡ mark k i
 mark-stays k zero h = sym (mark-out k 0 (omega arith))

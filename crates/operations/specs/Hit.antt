@@ -144,13 +144,3 @@ hit-sound s w D above e below unused h g =
       view = view-hit s w D e (omega (arith, g .linked .legal .few)) (g .view) (hit-ready s D above e below unused (g .linked) h);
       linked = hit-linked s D above e below unused (g .linked);
     }
-
--- what becomes of the fields that the plain stack reads
-pub hit-blocks : (s : Shape) (D : Fields) (e : ℕ) → hitD s D e BLOCK ≡ D BLOCK
-hit-blocks s D e = refl
-
-pub hit-counts : (s : Shape) (D : Fields) (e : ℕ) → hitD s D e COUNT ≡ upd (D COUNT) e (raisedCount (D SECTION e) (D COUNT e))
-hit-counts s D e = refl
-
-pub hit-modified : (s : Shape) (D : Fields) (e : ℕ) → hitD s D e MODIFIED ≡ D MODIFIED
-hit-modified s D e = refl

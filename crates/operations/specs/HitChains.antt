@@ -1,18 +1,18 @@
 -- The count chains after a hit. Assumes nothing.
 use Prim.Native.Nat.{ℕ, _≤_}
-use mathlib.Core.Path.{_≡_, refl, sym}
+use mathlib.Core.Path.{_≡_, refl}
 use mathlib.Core.Bool.{Bool, true, false}
 use mathlib.Core.List.{List, [], _∷_, _++_}
 use native.Mathlib.Omega.{arith}
 use lib.Dec.{leb}
 use borrow.Author.Tests.{leb-true, leb-false}
-use Rattle.links.specs.Upd.{upd, upd-same}
+use Rattle.links.specs.Upd.{upd}
 use Rattle.links.specs.Off.{Off}
-use Rattle.links.specs.Chains.{Chains, chains-remove, chains-key, chains-less, chains-more, chains-aside, chains-push}
-use Rattle.layout.specs.Addresses.{COUNT, CHAIN-TO-HEAD, CHAIN-TO-TAIL}
+use Rattle.links.specs.Chains.{Chains, chains-remove, chains-less, chains-more, chains-aside, chains-push}
+use Rattle.layout.specs.Addresses.{CHAIN-TO-HEAD, CHAIN-TO-TAIL}
 use Rattle.linkage.specs.Fields.{Shape, Fields, CHAIN-HEADS, CHAIN-TAILS}
 use Rattle.linkage.specs.WellLinked.{Has}
-use Rattle.operations.specs.FieldOps.{chainOut, chainIn, count, recount}
+use Rattle.operations.specs.FieldOps.{chainOut, chainIn}
 
 -- the chains of the fields, by a key
 abbrev pub Chained : Shape → Fields → (ℕ → ℕ) → List ℕ → Type 0
@@ -34,11 +34,3 @@ module _ (s : Shape) (D : Fields) (e : ℕ) where
       go false q =
           chains-more (Has s) (upd (D CHAIN-TO-TAIL) e 0) (upd (D CHAIN-TO-HEAD) e 0) (D CHAIN-HEADS) (D CHAIN-TAILS) key [] e residents (λ h. omega (arith, leb-false c (s .cmax) q))
           (chains-aside (Has s) (D CHAIN-TO-TAIL) (D CHAIN-TO-HEAD) (D CHAIN-HEADS) (D CHAIN-TAILS) key e 0 0 residents (o .1) g)
-
--- e takes another count, at the front of the stack
-pub recount-chains : (s : Shape) (D : Fields) (above : List ℕ) (e : ℕ) (below : List ℕ) (c′ : ℕ) → 1 ≤ D COUNT e → 1 ≤ c′ → Off e (0 ∷ (above ++ below)) → Chained s D (D COUNT) (above ++ (e ∷ below)) → Chained s (recount s D e (D COUNT e) c′) (upd (D COUNT) e c′) (e ∷ (above ++ below))
-recount-chains s D above e below c′ l l′ o g =
-    let D1 : Fields = chainOut (leb (D COUNT e) (s .cmax)) D (D COUNT e) e in
-    let g1 : Chained s D1 (D COUNT) (above ++ below) = out-chains s D e (D COUNT) above below l g in
-    let g2 : Chained s D1 (upd (D COUNT) e c′) (above ++ below) = chains-key (Has s) (D1 CHAIN-TO-TAIL) (D1 CHAIN-TO-HEAD) (D1 CHAIN-HEADS) (D1 CHAIN-TAILS) (D COUNT) e c′ (above ++ below) (o .1) g1 in
-    in-chains s (count D1 e (D COUNT e) c′) e (upd (D COUNT) e c′) c′ (above ++ below) (sym (upd-same (D COUNT) e c′)) l′ o g2

@@ -12,7 +12,7 @@ pub mod Recount
 pub mod Hit
 pub mod Halve
 pub mod HalveSound
-pub mod HalveBound
+pub mod HalveKeeps
 pub mod PurgePlaces
 pub mod PurgeStack
 pub mod Unhash
@@ -25,7 +25,6 @@ pub mod Enter
 pub mod EnterSeen
 pub mod EnterSound
 pub mod ReplaceSound
-pub mod SynonymBefore
 pub mod Totals
 pub mod Miss
 pub mod BoundParts
@@ -37,7 +36,6 @@ pub mod Places
 pub mod Lookup
 pub mod Victim
 pub mod VictimWords
-pub mod CountedWords
 pub mod Mark
 pub mod After
 pub mod Average

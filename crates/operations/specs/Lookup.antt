@@ -18,7 +18,7 @@ use Rattle.links.specs.Sll.{sll-distinct}
 use Rattle.links.specs.All.{all-off, off-all, all-here}
 use Rattle.links.specs.Find.{Split, find, few, all-there}
 use Rattle.words.specs.Words.{val}
-use Rattle.stack.specs.Recency.{Resident, lookup, position}
+use Rattle.stack.specs.Recency.{Resident, lookup}
 use Rattle.layout.specs.Addresses.{UNUSED, BLOCK, COUNT, SECTION, TO-HEAD, TO-TAIL, NEXT-SYNONYM}
 use Rattle.linkage.specs.Fields.{Shape, Fields, base, entry, bucket, BUCKET-HEADS, inHeader, View, view-get}
 use Rattle.linkage.specs.WellLinked.{WellLinked, Bucket, Entry}
@@ -28,7 +28,7 @@ use Rattle.layout.specs.declared.Found.{Found}
 use Rattle.layout.specs.declared.Found.the-variants.{At, Absent}
 use Rattle.operations.specs.Directory.{Directory}
 use Rattle.operations.specs.Laws.{all-below, distinct-join}
-use Rattle.operations.specs.Residents.{resident, residentsOf, position-here}
+use Rattle.operations.specs.Residents.{resident, residentsOf}
 use Rattle.operations.specs.Places.{missing, lookup-here, lookup-none}
 use Rattle.operations.specs.Enter.{NoneHas}
 
@@ -141,12 +141,6 @@ module _ (s : Shape) (D : Fields) (residents unused : List ℕ) (g : WellLinked 
         two r k =
             let z : ¬ (r ≡ 0) = λ c. omega (arith, k .some) in
             rw (ne-eqb r 0 z, ← k .block) (at residents (k .before) r (k .behind) (k .whole) g)
-
-    pub position-seen : (n : ℕ) → s .N ≤ n → let r : ℕ = soughtD D b n (D BUCKET-HEADS (s .hash b)) in (k : Holder D b residents r) → position b (residentsOf D residents) ≡ length (k .before)
-    position-seen n h k = rw (← k .block) (at residents (k .before) (soughtD D b n (D BUCKET-HEADS (s .hash b))) (k .behind) (k .whole) g)
-      where
-        at : (residents above : List ℕ) (e : ℕ) (below : List ℕ) → residents ≡ above ++ (e ∷ below) → WellLinked s D residents unused → position (D BLOCK e) (residentsOf D residents) ≡ length above
-        at residents above e below w g = rw w (position-here s D above e below unused (rw w at g))
 
 -- ---- over the words
 

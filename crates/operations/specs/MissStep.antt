@@ -12,7 +12,7 @@ use Rattle.links.specs.All.{all-here}
 use Rattle.words.specs.Words.{val}
 use Rattle.settings.specs.declared.Settings.{Settings}
 use Rattle.stack.specs.Counts.{victim}
-use Rattle.stack.specs.Recency.{Place, counts, place, asked, settled}
+use Rattle.stack.specs.Recency.{Place, counts, place, asked}
 use Rattle.stack.specs.Stack.{Totals}
 use Rattle.layout.specs.Addresses.{SUM, BLOCK, COUNT, MODIFIED}
 use Rattle.linkage.specs.Fields.{Shape, Fields, base, inHeader, view-get}
@@ -33,7 +33,7 @@ use Rattle.operations.specs.Lookup.{Told, find-is}
 use Rattle.operations.specs.Victim.{Chosen}
 use Rattle.operations.specs.After.{enter-residents, replace-residents}
 use Rattle.operations.specs.Counted.{totalsOf, raisedBy, same-totals, totalsAfter, after-unused, after-replacing, miss-totals, out-totals}
-use Rattle.operations.specs.Stands.{Given, Stands, settledWords, settle-step}
+use Rattle.operations.specs.Stands.{Given, Stands}
 
 -- a block out, where the victim was modified, changes no resident
 out-residents : (D : Fields) (out : Bool) (residents : List ℕ) → residentsOf (outIf out D) residents ≡ residentsOf D residents
@@ -93,13 +93,6 @@ module _ (t : Settings) (s : Shape) (of : Of t s) (w : List ℕ) (D : Fields) (s
   enter-asked residents e unused links written g budget here =
       enter-here residents e unused (none-has residents (e ∷ unused) links g budget here) g written
 
-  -- and once the counts have been looked at
-  pub enter-step : (residents : List ℕ) (e : ℕ) (unused : List ℕ) (links : ℕ) (written : Bool) → Directory s w D residents (e ∷ unused) → s .N ≤ links → found w (base s) links (24 + 2 * s .cmax + s .hash block) block ≡ Absent
-      → let q = place t block (residentsOf D residents) in Stands t s (settledWords t s (enteredFor s w block written)) (settled t (asked block written e q)) (totalsAfter written q (totalsOf D))
-  enter-step residents e unused links written g budget here =
-      let q = place t block (residentsOf D residents) in
-      settle-step t s (enteredFor s w block written) (asked block written e q) (totalsAfter written q (totalsOf D)) of (enter-asked residents e unused links written g budget here)
-
   -- ---- there is a victim
 
   module _ (above : List ℕ) (e : ℕ) (below unused : List ℕ) (absent : NoneHas s D block) (g : Directory s w D (above ++ (e ∷ below)) unused) (full : length (above ++ (e ∷ below)) ≡ s .N)
@@ -158,11 +151,3 @@ module _ (t : Settings) (s : Shape) (of : Of t s) (w : List ℕ) (D : Fields) (s
     where
       entry-of : (residents above below : List ℕ) → residents ≡ above ++ (e ∷ below) → All (λ x. Entry s x × (1 ≤ D COUNT x)) residents → Entry s e
       entry-of residents above below q a = all-here (λ x. Entry s x × (1 ≤ D COUNT x)) above e below (rw q at a) .0
-
-  -- and once the counts have been looked at
-  pub replace-step : (residents unused : List ℕ) (links looked e : ℕ) (written : Bool) → Directory s w D residents unused → s .N ≤ links → found w (base s) links (24 + 2 * s .cmax + s .hash block) block ≡ Absent → length residents ≡ s .N → Chosen t D residents looked e
-      → let q = place t block (residentsOf D residents) in
-      Stands t s (settledWords t s (outCounted (val w (wordOf (base s) e MODIFIED)) (replacedFor s w (val w (wordOf (base s) e BLOCK)) e block written))) (settled t (asked block written e q)) (totalsAfter written q (totalsOf D))
-  replace-step residents unused links looked e written g budget here full k =
-      let q = place t block (residentsOf D residents) in
-      settle-step t s (outCounted (val w (wordOf (base s) e MODIFIED)) (replacedFor s w (val w (wordOf (base s) e BLOCK)) e block written)) (asked block written e q) (totalsAfter written q (totalsOf D)) of (replace-asked residents unused links looked e written g budget here full k)

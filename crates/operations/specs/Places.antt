@@ -54,10 +54,6 @@ without-end : (r : ℕ → Resident ℕ) (residents : List ℕ) → without (len
 without-end r [] = refl
 without-end r (x ∷ residents) = ap (λ (t : List (Resident ℕ)). r x ∷ t) (without-end r residents)
 
-pub removed-none : (D : Fields) (n : ℕ) (residents : List ℕ) → Missing D n residents → removed n (residentsOf D residents) ≡ residentsOf D residents
-unfolding removed
-removed-none D n residents a = ap (λ (p : ℕ). without p (residentsOf D residents)) (position-none D n residents a) ∙ without-end (resident D) residents
-
 module _ (t : Settings) (D : Fields) (n : ℕ) where
   pub place-none : (residents : List ℕ) → Missing D n residents → place t n (residentsOf D residents) ≡ foundAt t (length residents) (residentsOf D residents) none
   unfolding place

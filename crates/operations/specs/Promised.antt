@@ -5,11 +5,10 @@ use mathlib.Core.Path.{_≡_, refl, _∙_, sym, ap, subst}
 use mathlib.Core.Logic.{_≢_}
 use mathlib.Core.Bool.{Bool, true, false, not}
 use mathlib.Core.Option.{Option, none, some}
-use mathlib.Core.List.{List, [], _∷_, map}
+use mathlib.Core.List.{List, [], _∷_}
 use native.Mathlib.Omega.{arith}
 use native.Mathlib.Nat.{mul-le-mul}
 use lib.Dec.{T, ltb, eqb}
-use lib.ListN.{length}
 use borrow.Author.Tests.{le-ltb}
 use Rattle.basics.specs.Basics.{All, pick}
 use Rattle.basics.specs.Basics as basics
@@ -17,22 +16,21 @@ use Rattle.basics.specs.AllLaws.{all-map, all-image}
 use Rattle.links.specs.Off.{Off}
 use Rattle.words.specs.Words.{val}
 use Rattle.words.specs.Links.{linksChanged}
-use Rattle.words.specs.LinkLaws.{Within, within-more}
+use Rattle.words.specs.LinkLaws.{Within}
 use Rattle.settings.specs.declared.Settings.{Settings}
 use Rattle.stack.specs.Counts.{chains, exceeds}
-use Rattle.stack.specs.Recency.{Resident, Place, found, unused, replacing, counts, position, counted, place, asked, settled, lookup, removed}
-use Rattle.stack.specs.Stack.{Totals, Answer, hit, entered, replaced, accessTotals, answering}
+use Rattle.stack.specs.Recency.{Resident, unused, counts, position, settled, lookup, removed}
+use Rattle.stack.specs.Stack.{Answer, hit, entered, replaced, accessTotals, answering}
 use Rattle.stack.specs.Entries.{entryFor, PickAt, Unused}
 use Rattle.stack.specs.PlaceLaws.{Placed, placed}
 use Rattle.stack.specs.SumLaws.{sum, asked-sum, replacing-calm, Calm, settled-sum}
 use Rattle.stack.specs.KeepLaws.{fewer, asked-few, Kept}
 use Rattle.layout.specs.Addresses.{SUM, UNUSED, BLOCK, COUNT, SECTION, MODIFIED}
-use Rattle.layout.specs.Sound.{settingsIn, totalsIn, field, sound, residentAt, residentsIn, view}
+use Rattle.layout.specs.Sound.{settingsIn, totalsIn, sound, residentAt, residentsIn, view}
 use Rattle.layout.specs.SoundLaws.{sound-legal, sound-kept}
 use Rattle.promises.specs.Promises.{halved}
-use Rattle.promises.specs.DirectoryPromises.{placeOf, askedOf, answerOf, Accessed, Purged}
-use Rattle.linkage.specs.Fields.{Shape, Fields, base}
-use Rattle.linkage.specs.WellLinked.{Entry, WellLinked}
+use Rattle.promises.specs.DirectoryPromises.{placeOf, askedOf, Accessed, Purged}
+use Rattle.linkage.specs.Fields.{Shape, base}
 use Rattle.linkage.specs.WordFields.{shape}
 use Rattle.word_ops.specs.Lists.{wordOf}
 use Rattle.word_ops.specs.Hit.{raisedCount}
@@ -43,7 +41,7 @@ use Rattle.word_ops.specs.Totals.{outCounted}
 use Rattle.layout.specs.declared.Found.{Found}
 use Rattle.layout.specs.declared.Found.the-variants.{At, Absent}
 use Rattle.operations.specs.Directory.{Directory}
-use Rattle.operations.specs.Residents.{Of, resident, residentsOf}
+use Rattle.operations.specs.Residents.{Of, resident}
 use Rattle.operations.specs.Stands.{Stands, stands-sum, settledWords, settle-step}
 use Rattle.operations.specs.Miss.{enteredFor, replacedFor}
 use Rattle.operations.specs.Step.{hitFor}

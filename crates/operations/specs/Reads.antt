@@ -1,20 +1,19 @@
 -- What is read off the words of a sound directory one at a time: how many residents there are, whether an entry is unused, what a
 -- lookup finds, the residents along the stack. Assumes nothing.
-use Prim.Native.Nat.{ℕ, zero, suc, _+_, _*_, _≤_, _<_}
+use Prim.Native.Nat.{ℕ, zero, suc, _+_, _≤_, _<_}
 use mathlib.Core.Path.{_≡_, refl, _∙_, sym, ap}
 use mathlib.Core.Logic.{_≢_}
-use mathlib.Core.Option.{Option, none, some}
+use mathlib.Core.Option.{some}
 use mathlib.Core.List.{List, [], _∷_, map}
 use native.Mathlib.Omega.{arith}
-use lib.Dec.{T, eqb}
-use lib.ListN.{length, getD, getElem?, length-map}
+use lib.Dec.{T}
+use lib.ListN.{length, getD, length-map}
 use Rattle.basics.specs.Basics.{All}
 use Rattle.links.specs.Run.{Run}
 use Rattle.words.specs.Words.{val}
-use Rattle.settings.specs.declared.Settings.{Settings}
-use Rattle.stack.specs.Recency.{Resident, lookup}
-use Rattle.layout.specs.Addresses.{CACHE-BLOCKS, RESIDENTS, HEAD, UNUSED, BLOCK, MODIFIED, TO-TAIL}
-use Rattle.layout.specs.Sound.{settingsIn, totalsIn, field, sound, residentAt, residentsIn, order}
+use Rattle.stack.specs.Recency.{lookup}
+use Rattle.layout.specs.Addresses.{CACHE-BLOCKS, RESIDENTS, HEAD, UNUSED, TO-TAIL}
+use Rattle.layout.specs.Sound.{settingsIn, totalsIn, sound, residentAt, residentsIn, order}
 use Rattle.layout.specs.declared.Found.{Found}
 use Rattle.layout.specs.declared.Found.the-variants.{At, Absent}
 use Rattle.promises.specs.DirectoryPromises.{foundResident, entryAt}
@@ -22,9 +21,8 @@ use Rattle.linkage.specs.Fields.{Shape, Fields, base, ends, view-get}
 use Rattle.linkage.specs.WellLinked.{Entry, WellLinked}
 use Rattle.linkage.specs.WordFields.{shape}
 use Rattle.word_ops.specs.Lists.{wordOf}
-use Rattle.operations.specs.Directory.{Directory}
 use Rattle.operations.specs.Seen.{address}
-use Rattle.operations.specs.Residents.{Of, resident, residentsOf, alive}
+use Rattle.operations.specs.Residents.{resident, residentsOf, alive}
 use Rattle.operations.specs.Stands.{Stands}
 use Rattle.operations.specs.SoundWords.{of-sound, stands-of-sound}
 use Rattle.operations.specs.WordSteps.{foundIn, answered, header-is, lookup-word}

@@ -1,14 +1,13 @@
 -- A block that enters the entry of a victim of a sound directory leaves a sound one. Assumes nothing.
 use Prim.Native.Nat.{ℕ, suc, _+_, _*_, _≤_, _<_}
-use mathlib.Core.Path.{_≡_, refl}
+use mathlib.Core.Path.{_≡_}
 use mathlib.Core.List.{List, _∷_, _++_}
 use native.Mathlib.Omega.{arith}
 use Rattle.basics.specs.AllLaws.{all-left}
-use Rattle.links.specs.Upd.{upd}
 use Rattle.links.specs.Off.{off-left, distinct-off}
 use Rattle.links.specs.Run.{last}
 use Rattle.links.specs.All.{all-last, all-next}
-use Rattle.layout.specs.Addresses.{SUM, BLOCK, COUNT, SECTION, MODIFIED, NEXT-SYNONYM}
+use Rattle.layout.specs.Addresses.{SUM, BLOCK, COUNT, SECTION, NEXT-SYNONYM}
 use Rattle.linkage.specs.Fields.{Shape, base, Fields, BUCKET-HEADS, inHeader, View}
 use Rattle.linkage.specs.WellLinked.{WellLinked, Entry}
 use Rattle.word_ops.specs.Hit.{recounted, toFront}
@@ -62,13 +61,3 @@ replace-sound s w D above e below unused block mark small room absent marks g =
       view = rw (prev-e-is s D above e below unused (g .linked), prev-is s (D COUNT) (D BLOCK) (D NEXT-SYNONYM) (D BUCKET-HEADS) e (here-e s D above e below unused (g .linked)) (live-e s D above e below unused (g .linked)) (g .linked .hash) (g .linked .legal .hashed (D BLOCK e))) (view-replaced s w D above e below unused block mark small room (marks .0) g (g .linked .legal .hashed (D BLOCK e)) (live-e s D above e below unused (g .linked)));
       linked = replace-linked s D above e below unused block mark room absent marks (g .linked);
     }
-
--- what becomes of the fields that the plain stack reads
-pub replace-blocks : (s : Shape) (D : Fields) (e q block mark : ℕ) → replaceD s D e q block mark BLOCK ≡ upd (D BLOCK) e block
-replace-blocks s D e q block mark = refl
-
-pub replace-counts : (s : Shape) (D : Fields) (e q block mark : ℕ) → replaceD s D e q block mark COUNT ≡ upd (D COUNT) e 1
-replace-counts s D e q block mark = refl
-
-pub replace-modified : (s : Shape) (D : Fields) (e q block mark : ℕ) → replaceD s D e q block mark MODIFIED ≡ upd (D MODIFIED) e mark
-replace-modified s D e q block mark = refl

@@ -6,7 +6,6 @@ use mathlib.Core.List.{List}
 use native.Mathlib.Omega.{arith}
 use lib.Dec.{T}
 use Rattle.basics.specs.Basics as basics
-use Rattle.settings.specs.NumbersLaws.{LegalSettings}
 use Rattle.stack.specs.Recency.{Resident, counts}
 use Rattle.stack.specs.Stack.{Totals}
 use Rattle.layout.specs.Sound.{settingsIn, totalsIn, sound, residentsIn}

@@ -1,11 +1,11 @@
 -- Words that stand for a recency stack and totals, and the look at the counts that ends a read or a write. Assumes nothing.
-use Prim.Native.Nat.{ℕ, _+_, _*_, _≤_}
+use Prim.Native.Nat.{ℕ, _+_, _*_}
 use mathlib.Core.Path.{_≡_, refl, _∙_, sym, ap, ap₂}
 use mathlib.Core.Bool.{Bool, true, false}
 use mathlib.Core.List.{List}
 use native.Mathlib.Omega.{arith}
 use lib.Dec.{ltb}
-use lib.ListN.{length, getD}
+use lib.ListN.{length}
 use Rattle.basics.specs.Basics.{pick, if_then_else_}
 use Rattle.basics.specs.Basics as basics
 use Rattle.words.specs.Words.{val}
@@ -13,13 +13,13 @@ use Rattle.settings.specs.declared.Settings.{Settings}
 use Rattle.stack.specs.Recency.{Resident, counts, settled}
 use Rattle.stack.specs.Stack.{Totals}
 use Rattle.layout.specs.Addresses.{TO-HEAD, AVERAGE-LIMIT, BLOCK-SIZE, SUM, READS, WRITES, INS, OUTS}
-use Rattle.linkage.specs.Fields.{Shape, size, Fields, base, header, inHeader, view-get}
+use Rattle.linkage.specs.Fields.{Shape, Fields, base, header, inHeader, view-get}
 use Rattle.linkage.specs.WellLinked.{total}
 use Rattle.word_ops.specs.Halve.{halved}
 use Rattle.operations.specs.Directory.{Directory}
 use Rattle.operations.specs.FieldOps.{clear, halveOne}
 use Rattle.operations.specs.HalveSound.{halveD, halve-sound}
-use Rattle.operations.specs.HalveBound.{halve-keeps}
+use Rattle.operations.specs.HalveKeeps.{halve-keeps}
 use Rattle.operations.specs.Residents.{Of, residentsOf}
 use Rattle.operations.specs.Average.{sum-is, settled-residents}
 use Rattle.operations.specs.Counted.{totalsOf, same-totals}

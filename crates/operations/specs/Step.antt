@@ -3,17 +3,15 @@ use Prim.Native.Nat.{ℕ, suc, _+_, _*_, _≤_, _<_}
 use mathlib.Core.Path.{_≡_, refl, _∙_, sym, ap, subst}
 use mathlib.Core.Bool.{Bool, true, false}
 use mathlib.Core.List.{List, _∷_, _++_}
-use Rattle.words.specs.Words.{setNumber}
 use Rattle.settings.specs.declared.Settings.{Settings}
-use Rattle.stack.specs.Recency.{Place, place, asked, settled, removed}
-use Rattle.layout.specs.Addresses.{SUM, BLOCK, MODIFIED}
+use Rattle.stack.specs.Recency.{Place, place, asked, removed}
+use Rattle.layout.specs.Addresses.{SUM, BLOCK}
 use Rattle.linkage.specs.Fields.{Shape, Fields, base, inHeader}
-use Rattle.word_ops.specs.Lists.{wordOf}
 use Rattle.word_ops.specs.Hit.{hit}
 use Rattle.word_ops.specs.Purge.{purged}
 use Rattle.word_ops.specs.Buckets.{found}
 use Rattle.word_ops.specs.Totals.{accessCounted}
-use Rattle.layout.specs.declared.Found.the-variants.{At, Absent}
+use Rattle.layout.specs.declared.Found.the-variants.{At}
 use Rattle.operations.specs.Directory.{Directory}
 use Rattle.operations.specs.FieldOps.{hitD, purgeD}
 use Rattle.operations.specs.Hit.{hit-sound}
@@ -21,12 +19,12 @@ use Rattle.operations.specs.Purge.{prev-e}
 use Rattle.operations.specs.PurgeSound.{purge-sound}
 use Rattle.operations.specs.Miss.{accessD, Countable, access-sound, access-marks}
 use Rattle.operations.specs.Residents.{Of, residentsOf}
-use Rattle.operations.specs.Places.{missing, place-hit, removed-none}
+use Rattle.operations.specs.Places.{place-hit}
 use Rattle.operations.specs.Lookup.{Holder, Told, find-is}
 use Rattle.operations.specs.Mark.{marked, markedWords, mark-sound}
 use Rattle.operations.specs.After.{hit-residents, purge-residents}
 use Rattle.operations.specs.Counted.{totalsOf, totalsAfter, after-found, access-totals}
-use Rattle.operations.specs.Stands.{Given, Stands, settledWords, settle-step}
+use Rattle.operations.specs.Stands.{Given, Stands}
 
 -- a hit: counted, the entry to the front, and marked if it was written
 abbrev pub hitFor : Shape → List ℕ → ℕ → Bool → List ℕ
@@ -76,21 +74,6 @@ module _ (t : Settings) (s : Shape) (of : Of t s) (w : List ℕ) (D : Fields) (u
       let k : Holder D block residents e = subst (Told s D block residents) here (find-is s w D residents unused block links g budget) in
       hit-at residents (k .before) e (k .behind) block written (k .whole) (k .block) g
 
-  -- and once the counts have been looked at
-  pub hit-step : (residents : List ℕ) (block links e : ℕ) (written : Bool) → Directory s w D residents unused → s .N ≤ links → found w (base s) links (24 + 2 * s .cmax + s .hash block) block ≡ At e
-      → let q = place t block (residentsOf D residents) in Stands t s (settledWords t s (hitFor s w e written)) (settled t (asked block written e q)) (totalsAfter written q (totalsOf D))
-  hit-step residents block links e written g budget here =
-      let q = place t block (residentsOf D residents) in
-      settle-step t s (hitFor s w e written) (asked block written e q) (totalsAfter written q (totalsOf D)) of (hit-asked residents block links e written g budget here)
-
-  pub read-step : (residents : List ℕ) (block links e : ℕ) → Directory s w D residents unused → s .N ≤ links → found w (base s) links (24 + 2 * s .cmax + s .hash block) block ≡ At e
-      → let q = place t block (residentsOf D residents) in Stands t s (settledWords t s (hit (accessCounted false w) (base s) (s .cmax) e)) (settled t (asked block false e q)) (totalsAfter false q (totalsOf D))
-  read-step residents block links e = hit-step residents block links e false
-
-  pub write-step : (residents : List ℕ) (block links e : ℕ) → Directory s w D residents unused → s .N ≤ links → found w (base s) links (24 + 2 * s .cmax + s .hash block) block ≡ At e
-      → let q = place t block (residentsOf D residents) in Stands t s (settledWords t s (setNumber (hit (accessCounted true w) (base s) (s .cmax) e) (wordOf (base s) e MODIFIED) 1)) (settled t (asked block true e q)) (totalsAfter true q (totalsOf D))
-  write-step residents block links e = hit-step residents block links e true
-
 -- ---- a purge
 
 module _ (t : Settings) (s : Shape) (w : List ℕ) (D : Fields) (unused : List ℕ) (given : Given t D) where
@@ -116,16 +99,3 @@ module _ (t : Settings) (s : Shape) (w : List ℕ) (D : Fields) (unused : List �
   purge-step residents block links e g budget here =
       let k : Holder D block residents e = subst (Told s D block residents) here (find-is s w D residents unused block links g budget) in
       purge-at residents (k .before) e (k .behind) block (k .whole) (k .block) g
-
-  -- and of one that it did not: nothing to do
-  pub purge-none : (residents : List ℕ) (block links : ℕ) → Directory s w D residents unused → s .N ≤ links → found w (base s) links (24 + 2 * s .cmax + s .hash block) block ≡ Absent → Stands t s w (removed block (residentsOf D residents)) (totalsOf D)
-  purge-none residents block links g budget here =
-      record {
-        fields = D;
-        order = residents;
-        unused = unused;
-        directory = g;
-        seen = sym (removed-none D block residents (missing s D residents unused block (g .linked) (subst (Told s D block residents) here (find-is s w D residents unused block links g budget))));
-        counted = refl;
-        given = record { average = given .average; bytes = given .bytes };
-      }

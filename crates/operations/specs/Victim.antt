@@ -140,9 +140,3 @@ module _ (t : Settings) (s : Shape) (D : Fields) (residents unused : List ℕ) (
   victim-is =
       ⊎-elim (chained (searchD D (s .cmax) 1)) (unchained (searchD D (s .cmax) 1))
       (search-is s D residents unused (s .cmax) 1 g (omega arith) (omega arith) (λ i a b. absurd (omega arith)))
-
-  pub victim-entry : getD residents (victim t (counts (residentsOf D residents))) 0 ≡ searchD D (s .cmax) 1 .entry
-  victim-entry =
-      let k = victim-is in
-      ap (λ (p : ℕ). getD residents p 0) (sym (k .place)) ∙ ap (λ (l : List ℕ). getD l (length (k .before)) 0) (k .whole)
-      ∙ getD-append-seam (k .before) (searchD D (s .cmax) 1 .entry) (k .behind) 0

@@ -13,7 +13,7 @@ use Rattle.basics.specs.Basics.{All}
 use Rattle.words.specs.Words.{val}
 use Rattle.settings.specs.declared.Settings.{Settings}
 use Rattle.stack.specs.Counts.{chains, exceeds}
-use Rattle.stack.specs.Recency.{Resident, counts, place, asked, settled, lookup, removed}
+use Rattle.stack.specs.Recency.{Resident, counts, place, asked, lookup, removed}
 use Rattle.stack.specs.Stack.{Totals}
 use Rattle.layout.specs.Addresses.{SUM, HEAD, TAIL, UNUSED, READS, WRITES, BLOCK, COUNT, MODIFIED}
 use Rattle.linkage.specs.Fields.{Shape, Fields, base, header, inHeader, view-get}
@@ -32,8 +32,8 @@ use Rattle.operations.specs.Residents.{Of, resident, residentsOf, alive}
 use Rattle.operations.specs.Lookup.{Told, asOption, find-is, find-seen}
 use Rattle.operations.specs.VictimWords.{found-victim}
 use Rattle.operations.specs.Counted.{totalsOf, totalsAfter}
-use Rattle.operations.specs.Stands.{Stands, stands-sum, settledWords, settle-step}
-use Rattle.operations.specs.Step.{hitFor, hit-asked, purge-step, purge-none}
+use Rattle.operations.specs.Stands.{Stands, stands-sum}
+use Rattle.operations.specs.Step.{hitFor, hit-asked, purge-step}
 use Rattle.operations.specs.MissStep.{enter-asked, replace-asked}
 
 -- the sum and the totals of reads and writes have room for one more
@@ -148,10 +148,6 @@ module _ (t : Settings) (s : Shape) (of : Of t s) (w : List ℕ) (l : List (Resi
       carry (outCounted (val w (wordOf (base s) e MODIFIED)) (replacedFor s w (val w (wordOf (base s) e BLOCK)) e block written)) (λ m. asked block written e (place t block m)) (λ m v. totalsAfter written (place t block m) v)
       (replace-asked t s of w D (countable r) (small r) (g .given) block room (g .order) (g .unused) links (victimFrom w (base s) (s .cmax) 1 .chains) e written (g .directory) budget here (full-word z) (found-victim s w D (g .order) (g .unused) (g .directory) t of (full-word z)))
 
-  -- THE LOOK AT THE COUNTS, which ends each of the three
-  pub settled-word : Stands t s (settledWords t s w) (settled t l) totals
-  settled-word = settle-step t s w l totals of g
-
   pub exceeds-word : exceeds t (counts l) ≡ ltb (t .amax * t .n) (val w SUM)
   unfolding exceeds
   exceeds-word = ap (ltb (t .amax * t .n)) (sym (stands-sum t s w l totals of g))
@@ -162,7 +158,3 @@ module _ (t : Settings) (s : Shape) (of : Of t s) (w : List ℕ) (l : List (Resi
   purge-word block links e budget here =
       carry (purged w (base s) (s .cmax) (suc (s .N)) (24 + 2 * s .cmax + s .hash block) e) (removed block) (λ m v. v)
       (purge-step t s w D (g .unused) (g .given) (g .order) block links e (g .directory) budget here)
-
-  pub purge-none-word : (block links : ℕ) → s .N ≤ links → foundIn s w links block ≡ Absent → Stands t s w (removed block l) totals
-  purge-none-word block links budget here =
-      carry w (removed block) (λ m v. v) (purge-none t s w D (g .unused) (g .given) (g .order) block links (g .directory) budget here)

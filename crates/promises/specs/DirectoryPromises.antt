@@ -2,21 +2,19 @@
 -- alone. Every promise gives the residents with their entries, read off along the stack links, by the recency stack's definitions;
 -- settings, totals and the words past the directory; that the words are sound again; and how many link words changed at most.
 -- Statements only.
-use Prim.Native.Nat.{ℕ, _+_, _≤_, _<_, _^_}
+use Prim.Native.Nat.{ℕ, _+_, _≤_}
 use mathlib.Core.Path.{_≡_}
-use mathlib.Core.Logic.{_≢_}
-use mathlib.Core.Bool.{Bool, true, false, not}
+use mathlib.Core.Bool.{Bool, not}
 use mathlib.Core.Option.{Option, none, some}
 use mathlib.Core.List.{List, map}
-use lib.ListN.{length, drop, getD}
+use lib.ListN.{drop, getD}
 use lib.Dec.{T, eqb}
 use Rattle.basics.specs.Basics.{if_then_else_}
 use Rattle.words.specs.Links.{linksChanged}
-use Rattle.settings.specs.declared.Settings.{Settings}
 use Rattle.settings.specs.Buckets.{directoryLength}
 use Rattle.stack.specs.Counts.{chains, exceeds}
-use Rattle.stack.specs.Recency.{Resident, Place, counts, cleaned, place, asked, settled, lookup, removed}
-use Rattle.stack.specs.Stack.{Totals, Answer, hit, entered, replaced, accessTotals, answering}
+use Rattle.stack.specs.Recency.{Resident, Place, counts, cleaned, place, asked, settled, removed}
+use Rattle.stack.specs.Stack.{Totals, Answer, accessTotals, answering}
 use Rattle.stack.specs.Entries.{entryFor, PickAt}
 use Rattle.layout.specs.Sound.{settingsIn, totalsIn, sound, residentAt, residentsIn}
 use Rattle.layout.specs.declared.Found.{Found}

@@ -1,13 +1,13 @@
 -- Demand 3 from the promises: each batch, from a sound directory, does what the plain stack does.
-use Prim.Native.Nat.{ℕ, zero, suc, _+_, _*_, _/_, _^_, _≤_}
+use Prim.Native.Nat.{ℕ, zero, suc, _*_, _≤_}
 use native.Mathlib.Omega.{arith}
 use mathlib.Core.Path.{_≡_, refl, sym, ap, ap₂, subst, subst₂, _∙_}
-use mathlib.Core.Bool.{Bool, true, false, _&&_, not}
+use mathlib.Core.Bool.{Bool, true, false, not}
 use mathlib.Core.List.{List, [], _∷_, _++_, map}
 use lib.ListN.{length, take, drop, take-append-drop}
 use lib.Seq.{length-take-le, take-take, take-append-le, drop-append-le}
-use lib.Dec.{T, eqb, eqb-refl}
-use Rattle.basics.specs.Basics.{All, bit}
+use lib.Dec.{T}
+use Rattle.basics.specs.Basics.{All}
 use Rattle.words.specs.LinkLaws.{changed-same}
 use Rattle.settings.specs.declared.Settings.{Settings}
 use Rattle.stack.specs.Stack.{Plain, Work, answerWord}

@@ -1,7 +1,7 @@
 -- What a look promises (document 01, "Looking at a block"): the number of its companion, and the part of data or of store that holds
 -- the block's present bytes. Nothing is written. Statements only.
 use Prim.Native.Nat.{ℕ, _-_, _*_}
-use mathlib.Core.Bool.{Bool, _||_, not}
+use mathlib.Core.Bool.{_||_, not}
 use mathlib.Core.Option.{Option, none, some}
 use mathlib.Core.List.{List, [], _∷_}
 use lib.ListN.{length}

@@ -1,6 +1,6 @@
 -- Buckets as stores and searches: an entry joins or leaves the list of its bucket, whose head is the word `bucket`; a lookup.
 -- Assumes nothing.
-use Prim.Native.Nat.{ℕ, zero, suc, _+_, _*_}
+use Prim.Native.Nat.{ℕ, zero, suc}
 use mathlib.Core.List.{List}
 use lib.Dec.{eqb}
 use Rattle.basics.specs.Basics.{pick}

@@ -1,5 +1,5 @@
 -- A resident whose bytes were written out, as stores. Assumes nothing.
-use Prim.Native.Nat.{ℕ, _+_, _*_}
+use Prim.Native.Nat.{ℕ, _+_}
 use mathlib.Core.List.{List}
 use Rattle.words.specs.Words.{setNumber}
 use Rattle.layout.specs.Addresses.{OUTS, MODIFIED}

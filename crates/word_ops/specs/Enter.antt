@@ -1,5 +1,5 @@
 -- A block enters an unused entry, or that of the victim, as stores in the order of the code. Assumes nothing.
-use Prim.Native.Nat.{ℕ, _+_, _*_}
+use Prim.Native.Nat.{ℕ, _+_}
 use mathlib.Core.List.{List}
 use lib.Dec.{leb}
 use Rattle.basics.specs.Basics.{pick}

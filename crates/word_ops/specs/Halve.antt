@@ -1,5 +1,5 @@
 -- Halving as stores, in the order of the code: the chains are emptied, and filled again from the stack's tail up. Assumes nothing.
-use Prim.Native.Nat.{ℕ, zero, suc, _+_, _*_, _/_}
+use Prim.Native.Nat.{ℕ, zero, suc, _+_, _/_}
 use mathlib.Core.List.{List}
 use Rattle.words.specs.Words.{val, setLink}
 use Rattle.layout.specs.Addresses.{RESIDENTS, TAIL, COUNT, TO-HEAD, chainHead, chainTail}

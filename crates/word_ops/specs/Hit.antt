@@ -1,5 +1,5 @@
 -- A hit as stores, in the order of the code. `at` is where the entries' words go up from. Assumes nothing.
-use Prim.Native.Nat.{ℕ, _+_, _-_, _*_}
+use Prim.Native.Nat.{ℕ, _+_, _-_}
 use mathlib.Core.Bool.{not}
 use mathlib.Core.List.{List}
 use lib.Dec.{eqb, leb, ltb}
