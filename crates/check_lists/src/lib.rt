@@ -1,6 +1,6 @@
 ghost use mathlib.Core.Path.{_≡_};
 ghost use Prim.Native.Nat.{_<_};
-ghost use Rattle.check_model.specs.Tests.{absent, bucketsFrom, chainTest, chainsOk, cursor, endTest, endsOk, firstOf, fld, headOf, lastAt, listTest, listed, noted, tailOf};
+ghost use Rattle.check_model.specs.Tests.{absent, bucketsFrom, chainTest, cursor, endTest, endsOk, firstOf, fld, headOf, lastAt, listTest, listed, noted, tailOf};
 
 fn head_of(d: &[u32], i: u32) -> u32
     ensures { λ r. ⌜ r ≡ headOf (now (d .entry)) i ⌝ }
@@ -24,7 +24,8 @@ fn cursor_of(d: &[u32], at: u32, before: u32, c: u32) -> u32
     check_stack::field(d, at, layout::CHAIN_TO_TAIL, before)
 }
 
-fn chain_test(d: &[u32], at: u32, cmax: u32, e: u32, before: u32) -> bool
+// Entry e stands behind the last one of its count, or in no chain.
+pub fn chain_test(d: &[u32], at: u32, cmax: u32, e: u32, before: u32) -> bool
     ensures { λ r. ⌜ r ≡ chainTest (fld (now (d .entry)) at) (headOf (now (d .entry))) cmax e before ⌝ }
 {
     let count = check_stack::field(d, at, layout::COUNT, e);
@@ -50,7 +51,7 @@ fn end_test(d: &[u32], at: u32, i: u32, before: u32) -> bool
 }
 
 // The last entry seen of a count.
-fn last_of(last: &[u32; 65], c: u32) -> u32
+pub fn last_of(last: &[u32; 65], c: u32) -> u32
     ensures { λ r. ⌜ r ≡ lastAt (now (last .entry)) c ⌝ }
 {
     if c < 65 {
@@ -59,7 +60,8 @@ fn last_of(last: &[u32; 65], c: u32) -> u32
     0
 }
 
-fn note(last: &mut [u32; 65], c: u32, e: u32)
+// Entry e is the last one seen of count c.
+pub fn note(last: &mut [u32; 65], c: u32, e: u32)
     ensures { λ _. ⌜ now (last .exit) ≡ noted (now (last .entry)) c e ⌝ }
 {
     if c < 65 {
@@ -67,7 +69,8 @@ fn note(last: &mut [u32; 65], c: u32, e: u32)
     }
 }
 
-fn ends_ok(d: &[u32], at: u32, cmax: u32, last: &[u32; 65]) -> bool
+// The chains end where the last entries of their counts are.
+pub fn ends_ok(d: &[u32], at: u32, cmax: u32, last: &[u32; 65]) -> bool
     ensures { λ r. ⌜ r ≡ endsOk (fld (now (d .entry)) at) (headOf (now (d .entry))) (tailOf (now (d .entry))) cmax (now (last .entry)) ⌝ }
 {
     let mut i = 0;
@@ -78,25 +81,6 @@ fn ends_ok(d: &[u32], at: u32, cmax: u32, last: &[u32; 65]) -> bool
         i += 1;
     }
     true
-}
-
-// The chains list the residents of their counts in stack order.
-pub fn chains_ok(d: &[u32], at: u32, cmax: u32, count: u32, head: u32) -> bool
-    ensures { λ r. ⌜ r ≡ chainsOk (fld (now (d .entry)) at) (headOf (now (d .entry))) (tailOf (now (d .entry))) cmax count head ⌝ }
-{
-    let mut last = [0; 65];
-    let mut e = head;
-    let mut left = count;
-    while left > 0 {
-        let c = check_stack::field(d, at, layout::COUNT, e);
-        if !chain_test(d, at, cmax, e, last_of(&last, c)) {
-            return false;
-        }
-        note(&mut last, c, e);
-        e = check_stack::field(d, at, layout::TO_TAIL, e);
-        left -= 1;
-    }
-    ends_ok(d, at, cmax, &last)
 }
 
 // No entry from e on has that block.

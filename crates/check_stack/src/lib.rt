@@ -1,5 +1,8 @@
 ghost use mathlib.Core.Path.{_≡_};
-ghost use Rattle.check_model.specs.Tests.{atPosition, fieldTest, fieldsOk, fld, kindAt, kindTest, kindsOk, linkTest, nthOf, sectionAt, stackOk, sumOf, unusedOk, unusedTest};
+ghost use Prim.Native.Nat.{_+_, _*_, _≤_, _<_};
+ghost use lib.ListN.{length};
+ghost use Rattle.check_model.specs.Nines.{hasKind, nineTest, ninesOk};
+ghost use Rattle.check_model.specs.Tests.{fieldTest, fld, kindAt, kindTest, kindsOk, linkTest, sectionAt, unusedOk, unusedTest};
 
 // Word j of entry e.
 pub fn field(d: &[u32], at: u32, j: u32, e: u32) -> u32
@@ -39,12 +42,12 @@ fn kind_test(d: &[u32], base: usize, i: usize) -> bool
     false
 }
 
-// The kinds of the first words are right; a word that is not there has none.
-pub fn kinds_ok(d: &[u32], base: usize, len: usize) -> bool
-    ensures { λ r. ⌜ r ≡ kindsOk (now (d .entry)) base len ⌝ }
+// The kinds of the words before the entries are right; a word that is not there has none.
+fn head_kinds(d: &[u32], base: usize) -> bool
+    ensures { λ r. ⌜ r ≡ kindsOk (now (d .entry)) base base ⌝ }
 {
     let mut i = 0;
-    while i < len {
+    while i < base {
         if !kind_test(d, base, i) {
             return false;
         }
@@ -53,7 +56,77 @@ pub fn kinds_ok(d: &[u32], base: usize, len: usize) -> bool
     true
 }
 
-fn link_test(d: &[u32], at: u32, n: u32, e: u32, before: u32) -> bool
+fn has_kind(d: &[u32], i: usize, k: u32) -> bool
+    requires { ⌜ i < length (now d) ⌝ }
+    ensures { λ r. ⌜ r ≡ hasKind (now (d .entry)) i k ⌝ }
+{
+    d[i] / 268435456 == k
+}
+
+// The nine words of an entry: four numbers, five links.
+fn nine_ok(d: &[u32], i: usize) -> bool
+    requires { ⌜ i + 9 ≤ length (now d) ⌝ }
+    ensures { λ r. ⌜ r ≡ nineTest (now (d .entry)) i ⌝ }
+{
+    if !has_kind(d, i, 1) {
+        return false;
+    }
+    if !has_kind(d, i + 1, 1) {
+        return false;
+    }
+    if !has_kind(d, i + 2, 1) {
+        return false;
+    }
+    if !has_kind(d, i + 3, 1) {
+        return false;
+    }
+    if !has_kind(d, i + 4, 2) {
+        return false;
+    }
+    if !has_kind(d, i + 5, 2) {
+        return false;
+    }
+    if !has_kind(d, i + 6, 2) {
+        return false;
+    }
+    if !has_kind(d, i + 7, 2) {
+        return false;
+    }
+    has_kind(d, i + 8, 2)
+}
+
+fn nines_ok(d: &[u32], base: usize, n: usize) -> bool
+    requires { ⌜ (base + 9 * n ≤ length (now d)) × (n ≤ 4096) ⌝ }
+    ensures { λ r. ⌜ r ≡ ninesOk (now (d .entry)) base n ⌝ }
+{
+    let mut i = base;
+    let mut left = n;
+    while left > 0 {
+        if !nine_ok(d, i) {
+            return false;
+        }
+        i += 9;
+        left -= 1;
+    }
+    true
+}
+
+// The words are there, and their kinds are right: those before base, then those of n entries.
+pub fn kinds_ok(d: &[u32], base: usize, n: usize) -> bool
+    requires { ⌜ (24 ≤ base) × (base ≤ 10000) × (n ≤ 4096) ⌝ }
+    ensures { λ r. ⌜ r ≡ kindsOk (now (d .entry)) base (base + 9 * n) ⌝ }
+{
+    if d.len() < base + 9 * n {
+        return false;
+    }
+    if !head_kinds(d, base) {
+        return false;
+    }
+    nines_ok(d, base, n)
+}
+
+// Entry e is one of n, and linked to the one before it.
+pub fn link_test(d: &[u32], at: u32, n: u32, e: u32, before: u32) -> bool
     ensures { λ r. ⌜ r ≡ linkTest (fld (now (d .entry)) at) n e before ⌝ }
 {
     if e == 0 {
@@ -63,27 +136,6 @@ fn link_test(d: &[u32], at: u32, n: u32, e: u32, before: u32) -> bool
         return false;
     }
     field(d, at, layout::TO_HEAD, e) == before
-}
-
-// The stack has count entries, right both ways.
-pub fn stack_ok(d: &[u32], at: u32, n: u32, count: u32, head: u32, tail: u32) -> bool
-    ensures { λ r. ⌜ r ≡ stackOk (fld (now (d .entry)) at) n count head tail ⌝ }
-{
-    let mut e = head;
-    let mut before = 0;
-    let mut left = count;
-    while left > 0 {
-        if !link_test(d, at, n, e, before) {
-            return false;
-        }
-        before = e;
-        e = field(d, at, layout::TO_TAIL, e);
-        left -= 1;
-    }
-    if e == 0 {
-        return before == tail;
-    }
-    false
 }
 
 fn section_at(new: u32, mid: u32, p: u32) -> u32
@@ -98,7 +150,8 @@ fn section_at(new: u32, mid: u32, p: u32) -> u32
     2
 }
 
-fn field_test(d: &[u32], at: u32, m: u32, new: u32, mid: u32, e: u32, p: u32) -> bool
+// The numbers of the resident at position p are right.
+pub fn field_test(d: &[u32], at: u32, m: u32, new: u32, mid: u32, e: u32, p: u32) -> bool
     ensures { λ r. ⌜ r ≡ fieldTest (fld (now (d .entry)) at) m new mid e p ⌝ }
 {
     let block = field(d, at, layout::BLOCK, e);
@@ -117,22 +170,6 @@ fn field_test(d: &[u32], at: u32, m: u32, new: u32, mid: u32, e: u32, p: u32) ->
         return field(d, at, layout::SECTION, e) == section_at(new, mid, p);
     }
     false
-}
-
-// The numbers of the residents are right.
-pub fn fields_ok(d: &[u32], at: u32, m: u32, new: u32, mid: u32, count: u32, head: u32) -> bool
-    ensures { λ r. ⌜ r ≡ fieldsOk (fld (now (d .entry)) at) m new mid count head ⌝ }
-{
-    let mut e = head;
-    let mut p = 0;
-    while p < count {
-        if !field_test(d, at, m, new, mid, e, p) {
-            return false;
-        }
-        e = field(d, at, layout::TO_TAIL, e);
-        p += 1;
-    }
-    true
 }
 
 fn unused_test(d: &[u32], at: u32, n: u32, e: u32) -> bool
@@ -170,41 +207,4 @@ pub fn unused_ok(d: &[u32], at: u32, n: u32, count: u32, first: u32) -> bool
         left -= 1;
     }
     e == 0
-}
-
-fn nth(d: &[u32], at: u32, k: u32, head: u32) -> u32
-    ensures { λ r. ⌜ r ≡ nthOf (fld (now (d .entry)) at) k head ⌝ }
-{
-    let mut e = head;
-    let mut left = k;
-    while left > 0 {
-        e = field(d, at, layout::TO_TAIL, e);
-        left -= 1;
-    }
-    e
-}
-
-// The resident at a position, 0 where there is none.
-pub fn at_position(d: &[u32], at: u32, count: u32, head: u32, p: u32) -> u32
-    ensures { λ r. ⌜ r ≡ atPosition (fld (now (d .entry)) at) count head p ⌝ }
-{
-    if p < count {
-        return nth(d, at, p, head);
-    }
-    0
-}
-
-// The sum of word j over the residents.
-pub fn sum(d: &[u32], at: u32, j: u32, count: u32, head: u32) -> u64
-    ensures { λ r. ⌜ r ≡ sumOf (fld (now (d .entry)) at) j count head ⌝ }
-{
-    let mut e = head;
-    let mut s: u64 = 0;
-    let mut left = count;
-    while left > 0 {
-        s += field(d, at, j, e) as u64;
-        e = field(d, at, layout::TO_TAIL, e);
-        left -= 1;
-    }
-    s
 }

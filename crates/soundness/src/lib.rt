@@ -2,7 +2,8 @@ use settings::Settings;
 ghost use mathlib.Core.Path.{_≡_};
 ghost use Prim.Native.Nat.{_≤_, _<_};
 ghost use Rattle.layout.specs.Sound.{sound};
-ghost use Rattle.check_model.specs.Tests.{fld, listsTest, numbersTest, soundTest, totalOf, totalsTest};
+ghost use Rattle.check_model.specs.Tests.{fld, headOf, soundTest, totalOf};
+ghost use Rattle.check_model.specs.Walk.{entryTest, listsWalk, met, numbersWith, totalsWith, walkEnd, walkTest};
 
 // A total, from its two words.
 fn total(d: &[u32], i: u32) -> u64
@@ -12,33 +13,21 @@ fn total(d: &[u32], i: u32) -> u64
     words::value(d, i) as u64 + 268435456 * (words::value(d, i + 1) as u64)
 }
 
-// The numbers of the header beside the stack.
-fn numbers_ok(
-    d: &[u32],
-    at: u32,
-    n: u32,
-    new: u32,
-    old: u32,
-    average: u32,
-    count: u32,
-    head: u32,
-) -> bool
-    requires { ⌜ (n ≤ 4096) × (old ≤ n) × (average ≤ 1000) ⌝ }
-    ensures { λ r. ⌜ r ≡ numbersTest (now (d .entry)) (fld (now (d .entry)) at) n new old average count head ⌝ }
+// The numbers of the header beside the stack: the sum s of counts and the entries at the boundaries.
+fn numbers_ok(d: &[u32], n: u32, average: u32, s: u64, middle: u32, aged: u32) -> bool
+    requires { ⌜ (n ≤ 4096) × (average ≤ 1000) ⌝ }
+    ensures { λ r. ⌜ r ≡ numbersWith (now (d .entry)) n average s middle aged ⌝ }
 {
-    let s = check_stack::sum(d, at, layout::COUNT, count, head);
     if words::value(d, layout::SUM) as u64 != s {
         return false;
     }
     if s > (average as u64) * (n as u64) {
         return false;
     }
-    if words::value(d, layout::NEW_BOUNDARY) != check_stack::at_position(d, at, count, head, new) {
+    if words::value(d, layout::NEW_BOUNDARY) != middle {
         return false;
     }
-    if words::value(d, layout::OLD_BOUNDARY)
-        != check_stack::at_position(d, at, count, head, n - old)
-    {
+    if words::value(d, layout::OLD_BOUNDARY) != aged {
         return false;
     }
     if words::value(d, layout::BLANK_14) != 0 {
@@ -50,25 +39,133 @@ fn numbers_ok(
     true
 }
 
-fn totals_ok(d: &[u32], at: u32, count: u32, head: u32) -> bool
-    requires { ⌜ count ≤ 4096 ⌝ }
-    ensures { λ r. ⌜ r ≡ totalsTest (now (d .entry)) (fld (now (d .entry)) at) count head ⌝ }
+fn totals_ok(d: &[u32], marks: u64) -> bool
+    requires { ⌜ marks ≤ 17592186044416 ⌝ }
+    ensures { λ r. ⌜ r ≡ totalsWith (now (d .entry)) marks ⌝ }
 {
     if total(d, layout::INS) > total(d, layout::READS) {
         return false;
     }
-    if total(d, layout::OUTS) + check_stack::sum(d, at, layout::MODIFIED, count, head)
-        > total(d, layout::WRITES)
-    {
+    if total(d, layout::OUTS) + marks > total(d, layout::WRITES) {
         return false;
     }
     true
 }
 
+// The resident e at position p: linked, its numbers right, behind the last of its count.
+fn entry_ok(
+    d: &[u32],
+    at: u32,
+    n: u32,
+    m: u32,
+    new: u32,
+    mid: u32,
+    cmax: u32,
+    e: u32,
+    before: u32,
+    p: u32,
+    last: &[u32; 65],
+) -> bool
+    ensures { λ r. ⌜ r ≡ entryTest (fld (now (d .entry)) at) (headOf (now (d .entry))) n m new mid cmax e before p (now (last .entry)) ⌝ }
+{
+    if !check_stack::link_test(d, at, n, e, before) {
+        return false;
+    }
+    if !check_stack::field_test(d, at, m, new, mid, e, p) {
+        return false;
+    }
+    let c = check_stack::field(d, at, layout::COUNT, e);
+    check_lists::chain_test(d, at, cmax, e, check_lists::last_of(last, c))
+}
+
+// What is left to test where the walk ends.
+fn end_ok(
+    d: &[u32],
+    at: u32,
+    n: u32,
+    cmax: u32,
+    average: u32,
+    e: u32,
+    before: u32,
+    s: u64,
+    marks: u64,
+    last: &[u32; 65],
+    middle: u32,
+    aged: u32,
+) -> bool
+    requires { ⌜ (n ≤ 4096) × (average ≤ 1000) × (marks ≤ 17592186044416) ⌝ }
+    ensures { λ r. ⌜ r ≡ walkEnd (now (d .entry)) (fld (now (d .entry)) at) n cmax average e before s marks (now (last .entry)) middle aged ⌝ }
+{
+    if e != 0 {
+        return false;
+    }
+    if before != words::value(d, layout::TAIL) {
+        return false;
+    }
+    if !check_lists::ends_ok(d, at, cmax, last) {
+        return false;
+    }
+    if !numbers_ok(d, n, average, s, middle, aged) {
+        return false;
+    }
+    totals_ok(d, marks)
+}
+
+// Entry e where position p is q, else the one met before.
+fn met_at(p: u32, q: u32, e: u32, a: u32) -> u32
+    ensures { λ r. ⌜ r ≡ met p q e a ⌝ }
+{
+    if p == q {
+        return e;
+    }
+    a
+}
+
+// One walk along the stack: links, numbers, chains, sums and boundaries.
+fn walk_ok(
+    d: &[u32],
+    at: u32,
+    n: u32,
+    m: u32,
+    new: u32,
+    mid: u32,
+    cmax: u32,
+    amax: u32,
+    count: u32,
+    head: u32,
+) -> bool
+    requires { ⌜ (n ≤ 4096) × (amax ≤ 1000) × (count ≤ 4096) ⌝ }
+    ensures { λ r. ⌜ r ≡ walkTest (now (d .entry)) (fld (now (d .entry)) at) n m new mid cmax amax count head ⌝ }
+{
+    let mut last = [0; 65];
+    let mut e = head;
+    let mut before = 0;
+    let mut p = 0;
+    let mut s: u64 = 0;
+    let mut marks: u64 = 0;
+    let mut young = 0;
+    let mut old = 0;
+    while p < count {
+        if !entry_ok(d, at, n, m, new, mid, cmax, e, before, p, &last) {
+            return false;
+        }
+        let c = check_stack::field(d, at, layout::COUNT, e);
+        s += c as u64;
+        marks += check_stack::field(d, at, layout::MODIFIED, e) as u64;
+        check_lists::note(&mut last, c, e);
+        young = met_at(p, new, e, young);
+        old = met_at(p, mid, e, old);
+        before = e;
+        e = check_stack::field(d, at, layout::TO_TAIL, e);
+        p += 1;
+    }
+    end_ok(d, at, n, cmax, amax, e, before, s, marks, &last, young, old)
+}
+
 // The stack, the unused list and the rest, of legal settings.
 fn lists_ok(d: &[u32], n: u32, new: u32, old: u32, cmax: u32, average: u32, m: u32, nb: u32) -> bool
     requires { ⌜ (n ≤ 4096) × (old ≤ n) × (cmax ≤ 64) × (average ≤ 1000) × (0 < nb) × (nb ≤ 4096) ⌝ }
-    ensures { λ r. ⌜ r ≡ listsTest (now (d .entry)) n new old cmax average m nb ⌝ }
+    ensures { λ r. ⌜ r ≡ listsWalk (now (d .entry)) n new old cmax average m nb ⌝ }
 {
     let at = 15 + 2 * cmax + nb;
     let count = words::value(d, layout::RESIDENTS);
@@ -76,25 +173,13 @@ fn lists_ok(d: &[u32], n: u32, new: u32, old: u32, cmax: u32, average: u32, m: u
     if count > n {
         return false;
     }
-    if !check_stack::stack_ok(d, at, n, count, head, words::value(d, layout::TAIL)) {
+    if !walk_ok(d, at, n, m, new, n - old, cmax, average, count, head) {
         return false;
     }
     if !check_stack::unused_ok(d, at, n, n - count, words::value(d, layout::UNUSED)) {
         return false;
     }
-    if !check_stack::fields_ok(d, at, m, new, n - old, count, head) {
-        return false;
-    }
-    if !numbers_ok(d, at, n, new, old, average, count, head) {
-        return false;
-    }
-    if !check_lists::chains_ok(d, at, cmax, count, head) {
-        return false;
-    }
-    if !check_lists::buckets_ok(d, at, 24 + 2 * cmax, n, nb, count) {
-        return false;
-    }
-    totals_ok(d, at, count, head)
+    check_lists::buckets_ok(d, at, 24 + 2 * cmax, n, nb, count)
 }
 
 fn passes(d: &[u32]) -> bool
@@ -121,7 +206,7 @@ fn passes(d: &[u32]) -> bool
     }
     let nb = settings::buckets(n);
     let base = 24 + 2 * (cmax as usize) + nb as usize;
-    if !check_stack::kinds_ok(d, base, base + 9 * (n as usize)) {
+    if !check_stack::kinds_ok(d, base, n as usize) {
         return false;
     }
     lists_ok(d, n, nnew, nold, cmax, amax, m, nb)

@@ -1,56 +1,46 @@
-use native.Mathlib.Nat.{sub-zero}
 use borrow.Author.Needs.{needs}
 use borrow.Author.Tests.{not-true, not-false}
-use mathlib.Core.Path.{_≡_, refl, sym, _∙_}
-use mathlib.Core.Bool.{true}
-use Prim.Native.Nat.{_-_}
 use native.Mathlib.Omega.{arith}
-use Rattle.check_model.specs.Tests.{kindsOk, kindsFrom}
-use Rattle.check_model.specs.LoopLaws.{turns-fail, turns-up, turns-end}
+use mathlib.Core.Path.{sym}
+use Rattle.check_model.specs.Tests.{kindsOk}
+use Rattle.check_model.specs.Nines.{kinds-short, kinds-by-nine}
 use Rattle.check_stack.proofs.kinds_ok.Statement.{statement}
 use Rattle.check_stack.proofs.kinds_ok.Tie as tie
 use Rattle.check_stack.proofs.kinds_ok.Reads as reads
 use Rattle.check_stack.proofs.kinds_ok.Lts as lts
-use Rattle.check_stack.proofs.kind_test.Reads as kind-test-reads
+use Rattle.check_stack.proofs.head_kinds.Reads as head-kinds-reads
+use Rattle.check_stack.proofs.nines_ok.Reads as nines-ok-reads
 
-abbrev Inv-loop : tie.InvT-loop
-Inv-loop d base len i₀ i = kindsFrom d base (len - i) i ≡ kindsOk d base len
+mul-if1 : tie.Need-mul-if1
+mul-if1 c = search needs
 
-abbrev μ-loop : tie.MeasureT-loop
-μ-loop d base len i₀ i = len - i
+add-if1 : tie.Need-add-if1
+add-if1 c = search needs
 
-loop-holds : tie.Need-loop-holds Inv-loop μ-loop
+returns : tie.Need-returns
 unfolding kindsOk
-loop-holds c = rw sub-zero
+returns c = sym (kinds-short _ _ _ 0 (omega arith) (omega (arith, c .if1 .taken)))
 
-kind-test-requires : tie.Need-kind-test-requires Inv-loop μ-loop
-kind-test-requires c κs = search needs
+head-kinds-requires : tie.Need-head-kinds-requires
+head-kinds-requires c κs = search needs
 
-returns : tie.Need-returns Inv-loop μ-loop
-returns c = let l = c .before .before .before .loop in sym (turns-fail _ _ _ _ (l .i) (omega arith) (sym (c .before .kind-test .ensures) ∙ not-true _ (c .if1 .taken))) ∙ l .inv
+returns-2 : tie.Need-returns-2
+returns-2 c = let a = c .before .before .before .before .args in let p = c .before .before .before .before .pre in rw (kinds-by-nine (a .d .now) (a .base) (p .0) (a .n), ← c .before .head-kinds .ensures, not-true (c .before .head-kinds .result) (c .if2 .taken))
 
-add-i : tie.Need-add-i Inv-loop μ-loop
-add-i c = search needs
+nines-ok-requires : tie.Need-nines-ok-requires
+nines-ok-requires c κs = search needs
 
-loop-less : tie.Need-loop-less Inv-loop μ-loop
-loop-less c = search needs
-
-loop-again : tie.Need-loop-again Inv-loop μ-loop
-loop-again c = let l = c .before .before .before .loop in sym (turns-up _ _ _ _ (l .i) (l .i) (c .before .before .loop-test .taken) (sym (c .before .kind-test .ensures) ∙ not-false _ (c .if1 .left))) ∙ l .inv
-
-returns-2 : tie.Need-returns-2 Inv-loop μ-loop
-returns-2 c = let l = c .before .loop in sym (turns-end _ _ _ _ (l .i) true (omega arith) refl) ∙ l .inv
+returns-3 : tie.Need-returns-3
+returns-3 c = let a = c .before .before .before .before .before .args in let p = c .before .before .before .before .before .pre in rw (kinds-by-nine (a .d .now) (a .base) (p .0) (a .n), ← c .before .before .head-kinds .ensures, ← c .nines-ok .ensures, not-false (c .before .before .head-kinds .result) (c .before .if2 .left))
 
 pub kinds-ok-spec : {M : Type 1} → statement M
 kinds-ok-spec =
     tie.close
     (tie.spec
-    Inv-loop
-    μ-loop
-    loop-holds
-    kind-test-requires
+    mul-if1
+    add-if1
     returns
-    add-i
-    loop-less
-    loop-again
-    returns-2)
+    head-kinds-requires
+    returns-2
+    nines-ok-requires
+    returns-3)

@@ -1,3 +1,5 @@
+use native.Mathlib.Omega.{arith}
+use Prim.Native.Nat.{_≤_}
 use borrow.Author.Tests.{eq-eqb, ne-eqb, not-true, not-false}
 use mathlib.Core.Path.{sym, _∙_}
 use borrow.Author.Needs.{needs}
@@ -5,6 +7,7 @@ use Rattle.settings.specs.NumbersLaws.{legal-settings, old-fits}
 use Rattle.settings.specs.BucketLaws.{buckets-some, buckets-few}
 use Rattle.layout.specs.Sound.{settingsIn}
 use Rattle.check_model.specs.Tests.{soundTest}
+use Rattle.check_model.specs.Walk.{lists-walk}
 use Rattle.words.proofs.value.Reads as get-reads
 use Rattle.settings.proofs.buckets.Reads as buckets-reads
 use Rattle.settings.proofs.number.Reads as number-reads
@@ -64,14 +67,12 @@ add-base-2 c = search needs
 cast-kinds-ok : tie.Need-cast-kinds-ok
 cast-kinds-ok c = search needs
 
-mul-kinds-ok : tie.Need-mul-kinds-ok
-mul-kinds-ok c = search needs
-
-add-kinds-ok : tie.Need-add-kinds-ok
-add-kinds-ok c = search needs
-
 kinds-ok-requires : tie.Need-kinds-ok-requires
-kinds-ok-requires c κs = search needs
+kinds-ok-requires c κs =
+    let g = legal-settings _ (sym (c .before .before .number .ensures) ∙ c .before .if1 .left) in
+    let h = buckets-few (c .before .before .before .before .before .before .before .before .before .value .result) (g .few-blocks) in
+    let b : c .buckets .result ≤ 4096 = rw (c .buckets .ensures) h in
+    (omega arith, omega (arith, g .few-chains, b), g .few-blocks)
 
 returns-2 : tie.Need-returns-2
 unfolding soundTest settingsIn
@@ -87,7 +88,7 @@ lists-ok-requires c κs =
 
 returns-3 : tie.Need-returns-3
 unfolding soundTest settingsIn
-returns-3 c = rw (← c .before .before .before .before .before .before .before .before .before .before .before .before .value .ensures, ← c .before .before .before .before .before .before .before .before .before .before .before .value2 .ensures, ← c .before .before .before .before .before .before .before .before .before .before .value3 .ensures, ← c .before .before .before .before .before .before .before .before .before .value4 .ensures, ← c .before .before .before .before .before .before .before .before .value5 .ensures, ← c .before .before .before .before .before .before .before .value6 .ensures, ← c .before .before .before .before .before .before .value7 .ensures, ← c .before .before .before .before .before .number .ensures, eq-eqb _ 0 (c .before .before .before .before .if1 .left), ← c .before .before .before .buckets .ensures, ← c .before .before .kinds-ok .ensures, not-false (c .before .before .kinds-ok .result) (c .before .if2 .left), ← c .lists-ok .ensures)
+returns-3 c = rw (← c .before .before .before .before .before .before .before .before .before .before .before .before .value .ensures, ← c .before .before .before .before .before .before .before .before .before .before .before .value2 .ensures, ← c .before .before .before .before .before .before .before .before .before .before .value3 .ensures, ← c .before .before .before .before .before .before .before .before .before .value4 .ensures, ← c .before .before .before .before .before .before .before .before .value5 .ensures, ← c .before .before .before .before .before .before .before .value6 .ensures, ← c .before .before .before .before .before .before .value7 .ensures, ← c .before .before .before .before .before .number .ensures, eq-eqb _ 0 (c .before .before .before .before .if1 .left), ← c .before .before .before .buckets .ensures, ← c .before .before .kinds-ok .ensures, not-false (c .before .before .kinds-ok .result) (c .before .if2 .left), lists-walk, ← c .lists-ok .ensures)
 
 pub passes-spec : {M : Type 1} → statement M
 passes-spec =
@@ -109,8 +110,6 @@ passes-spec =
     cast-base-2
     add-base-2
     cast-kinds-ok
-    mul-kinds-ok
-    add-kinds-ok
     kinds-ok-requires
     returns-2
     lists-ok-requires
