@@ -10,7 +10,7 @@ use borrow.Author.Tests.{eq-eqb, ne-eqb}
 use Rattle.basics.specs.Basics.{pick}
 use Rattle.words.specs.WordLaws.{val-small}
 use Rattle.check_model.specs.Turns.{turns, moved}
-use Rattle.check_model.specs.Tests.{fld, kindTest, absent, listTest, listed, bucketsFrom, sumFrom, sumOf, totalOf}
+use Rattle.check_model.specs.Tests.{fld, kindTest, absent, listTest, listed, bucketsFrom, sumFrom, totalOf}
 use Rattle.check_model.specs.Kinds.{kind-some}
 use Rattle.layout.specs.Addresses.{BLOCK, NEXT-SYNONYM}
 
@@ -30,18 +30,6 @@ module _ {S : Type 0} (ok : S → Bool) (next : S → S) (done : S → Bool) whe
       let p : suc k - 1 ≡ k = omega arith in
       rw (e, p)
   turns-go zero s h e = absurd (omega arith)
-
-module _ {S : Type 0} (next : S → S) where
-  pub moved-end : (k : ℕ) (s : S) → k ≡ 0 → moved next k s ≡ s
-  unfolding moved
-  moved-end k s h = rw h
-
-  pub moved-go : (k : ℕ) (s : S) → 0 < k → moved next k s ≡ moved next (k - 1) (next s)
-  unfolding moved
-  moved-go (suc k) s h =
-      let p : suc k - 1 ≡ k = omega arith in
-      rw p
-  moved-go zero s h = absurd (omega arith)
 
 -- turns counted upwards
 
@@ -147,10 +135,6 @@ pub sum-small : (w : List ℕ) (at j k e a : ℕ) → sumFrom (fld w at) j k e a
 unfolding moved
 sum-small w at j zero e a = omega arith
 sum-small w at j (suc k) e a = omega (arith, sum-small w at j k (fld w at 5 e) (a + fld w at j e), fld-small w at j e)
-
-pub sum-of-small : (w : List ℕ) (at j r head : ℕ) → sumOf (fld w at) j r head ≤ 268435456 * r
-unfolding sumOf
-sum-of-small w at j r head = omega (arith, sum-small w at j r head 0)
 
 pub total-small : (w : List ℕ) (i : ℕ) → totalOf w i < 72057594306363392
 unfolding totalOf
