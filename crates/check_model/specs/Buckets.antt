@@ -18,26 +18,6 @@ use Rattle.check_model.specs.Tests.{absent, listTest, listed, bucketsFro
 use Rattle.check_model.specs.Bools.{pick-yes, yes-pick, pick-no, no-pick, is-true, to-T}
 use Rattle.layout.specs.Addresses.{BLOCK, COUNT, NEXT-SYNONYM}
 
--- no entry of a list has the block, seen with budget enough
-module _ (f : ℕ → ℕ → ℕ) (v : ℕ) where
-  pub absent-read : (ys : List ℕ) (k e : ℕ) → Run (f NEXT-SYNONYM) e ys 0 → Off 0 ys → length ys ≤ k → T (absent f v k e) → Off v (map (f BLOCK) ys)
-  unfolding absent
-  absent-read [] k e r o l h = tt
-  absent-read (y ∷ ys) zero e r o l h = absurd (omega arith)
-  absent-read (y ∷ ys) (suc k) e r o l h =
-      let z : ¬ (y ≡ 0) = λ c. o .0 (sym c) in
-      let h′ : T (pick (eqb (f BLOCK y) v) false (absent f v k (f NEXT-SYNONYM y))) = rw (r .0, ne-eqb y 0 z) at h in
-      let p = pick-no (eqb (f BLOCK y) v) (absent f v k (f NEXT-SYNONYM y)) h′ in
-      (λ c. eqb-no {a = f BLOCK y} {b = v} (p .0) (sym c), absent-read ys k (f NEXT-SYNONYM y) (r .1) (o .1) (omega arith) (p .1))
-
-  pub absent-write : (ys : List ℕ) (k e : ℕ) → Run (f NEXT-SYNONYM) e ys 0 → Off 0 ys → Off v (map (f BLOCK) ys) → T (absent f v k e)
-  unfolding absent
-  absent-write ys zero e r o q = tt
-  absent-write [] (suc k) e r o q = rw (eq-eqb e 0 r) tt
-  absent-write (y ∷ ys) (suc k) e r o q =
-      let z : ¬ (y ≡ 0) = λ c. o .0 (sym c) in
-      rw (r .0, ne-eqb y 0 z) (no-pick (eqb (f BLOCK y) v) (absent f v k (f NEXT-SYNONYM y)) (no-eqb (λ c. q .0 (sym c))) (absent-write ys k (f NEXT-SYNONYM y) (r .1) (o .1) (q .1)))
-
 module _ (f : ℕ → ℕ → ℕ) (n nb : ℕ) where
   abbrev pub slot : ℕ → ℕ
   slot e = fnv (f BLOCK e) % nb
@@ -53,23 +33,46 @@ module _ (f : ℕ → ℕ → ℕ) (n nb : ℕ) where
     pub each : All (Entry b) ys
     pub blocks : Distinct (map (f BLOCK) ys)
 
-  test-read : (b k e : ℕ) → T (listTest f n nb b k e) → Entry b e × T (absent f (f BLOCK e) k (f NEXT-SYNONYM e))
+  -- no entry of a list has the block, seen with budget enough
+  absent-read : (v : ℕ) (ys : List ℕ) (k e : ℕ) → Run (f NEXT-SYNONYM) e ys 0 → Off 0 ys → length ys ≤ k → T (absent f n v k e) → Off v (map (f BLOCK) ys)
+  unfolding absent
+  absent-read v [] k e r o l h = tt
+  absent-read v (y ∷ ys) zero e r o l h = absurd (omega arith)
+  absent-read v (y ∷ ys) (suc k) e r o l h =
+      let z : ¬ (y ≡ 0) = λ c. o .0 (sym c) in
+      let rest : Bool = absent f n v k (f NEXT-SYNONYM y) in
+      let h′ : T (pick (ltb n y) false (pick (eqb (f BLOCK y) v) false rest)) = rw (r .0, ne-eqb y 0 z) at h in
+      let p = pick-no (eqb (f BLOCK y) v) rest (pick-no (ltb n y) (pick (eqb (f BLOCK y) v) false rest) h′ .1) in
+      (λ c. eqb-no {a = f BLOCK y} {b = v} (p .0) (sym c), absent-read v ys k (f NEXT-SYNONYM y) (r .1) (o .1) (omega arith) (p .1))
+
+  absent-write : (v b : ℕ) (ys : List ℕ) (k e : ℕ) → Run (f NEXT-SYNONYM) e ys 0 → Off 0 ys → All (Entry b) ys → Off v (map (f BLOCK) ys) → T (absent f n v k e)
+  unfolding absent
+  absent-write v b ys zero e r o g q = tt
+  absent-write v b [] (suc k) e r o g q = rw (eq-eqb e 0 r) tt
+  absent-write v b (y ∷ ys) (suc k) e r o g q =
+      let z : ¬ (y ≡ 0) = λ c. o .0 (sym c) in
+      let rest : Bool = absent f n v k (f NEXT-SYNONYM y) in
+      rw (r .0, ne-eqb y 0 z)
+      (no-pick (ltb n y) (pick (eqb (f BLOCK y) v) false rest) (no-ltb (g .0 .low))
+      (no-pick (eqb (f BLOCK y) v) rest (no-eqb (λ c. q .0 (sym c))) (absent-write v b ys k (f NEXT-SYNONYM y) (r .1) (o .1) (g .1) (q .1))))
+
+  test-read : (b k e : ℕ) → T (listTest f n nb b k e) → Entry b e × T (absent f n (f BLOCK e) k (f NEXT-SYNONYM e))
   unfolding listTest
   test-read b k e h =
-      let t2 : Bool = pick (eqb (fnv (f BLOCK e) % nb) b) (absent f (f BLOCK e) k (f NEXT-SYNONYM e)) false in
+      let t2 : Bool = pick (eqb (fnv (f BLOCK e) % nb) b) (absent f n (f BLOCK e) k (f NEXT-SYNONYM e)) false in
       let p = pick-no (ltb n e) (pick (eqb (f COUNT e) 0) false t2) h in
       let q = pick-no (eqb (f COUNT e) 0) t2 (p .1) in
-      let r = pick-yes (eqb (fnv (f BLOCK e) % nb) b) (absent f (f BLOCK e) k (f NEXT-SYNONYM e)) (q .1) in
+      let r = pick-yes (eqb (fnv (f BLOCK e) % nb) b) (absent f n (f BLOCK e) k (f NEXT-SYNONYM e)) (q .1) in
       let c : ¬ (f COUNT e ≡ 0) = eqb-no {a = f COUNT e} {b = 0} (q .0) in
       (record { low = ltb-no {a = n} {b = e} (p .0); count = omega arith; place = eqb→eq (fnv (f BLOCK e) % nb) b (r .0) }, r .1)
 
-  test-write : (b k e : ℕ) → Entry b e → T (absent f (f BLOCK e) k (f NEXT-SYNONYM e)) → T (listTest f n nb b k e)
+  test-write : (b k e : ℕ) → Entry b e → T (absent f n (f BLOCK e) k (f NEXT-SYNONYM e)) → T (listTest f n nb b k e)
   unfolding listTest
   test-write b k e g a =
-      let t2 : Bool = pick (eqb (fnv (f BLOCK e) % nb) b) (absent f (f BLOCK e) k (f NEXT-SYNONYM e)) false in
+      let t2 : Bool = pick (eqb (fnv (f BLOCK e) % nb) b) (absent f n (f BLOCK e) k (f NEXT-SYNONYM e)) false in
       let c : ¬ (f COUNT e ≡ 0) = λ c. omega (arith, g .count) in
       no-pick (ltb n e) (pick (eqb (f COUNT e) 0) false t2) (no-ltb (g .low))
-      (no-pick (eqb (f COUNT e) 0) t2 (no-eqb c) (yes-pick (eqb (fnv (f BLOCK e) % nb) b) (absent f (f BLOCK e) k (f NEXT-SYNONYM e)) (yes-eqb (g .place)) a))
+      (no-pick (eqb (f COUNT e) 0) t2 (no-eqb c) (yes-pick (eqb (fnv (f BLOCK e) % nb) b) (absent f n (f BLOCK e) k (f NEXT-SYNONYM e)) (yes-eqb (g .place)) a))
 
   pub record Listed (b k e m : ℕ) : Type 0 where
     pub ys : List ℕ
@@ -102,7 +105,7 @@ module _ (f : ℕ → ℕ → ℕ) (n nb : ℕ) where
               fwd = (refl, s .bucket .fwd);
               some = (λ c. z (sym c), s .bucket .some);
               each = (p .0, s .bucket .each);
-              blocks = (absent-read f (f BLOCK e) (s .ys) k (f NEXT-SYNONYM e) (s .bucket .fwd) (s .bucket .some) (omega (arith, s .many)) (p .1), s .bucket .blocks);
+              blocks = (absent-read (f BLOCK e) (s .ys) k (f NEXT-SYNONYM e) (s .bucket .fwd) (s .bucket .some) (omega (arith, s .many)) (p .1), s .bucket .blocks);
             };
             many = omega (arith, s .many);
           }
@@ -114,7 +117,7 @@ module _ (f : ℕ → ℕ → ℕ) (n nb : ℕ) where
   listed-write b (y ∷ ys) zero e m g h = absurd (omega arith)
   listed-write b (y ∷ ys) (suc k) e m g h =
       let z : ¬ (y ≡ 0) = λ c. g .some .0 (sym c) in
-      let t : listTest f n nb b k y ≡ true = is-true (listTest f n nb b k y) (test-write b k y (g .each .0) (absent-write f (f BLOCK y) ys k (f NEXT-SYNONYM y) (g .fwd .1) (g .some .1) (g .blocks .0))) in
+      let t : listTest f n nb b k y ≡ true = is-true (listTest f n nb b k y) (test-write b k y (g .each .0) (absent-write (f BLOCK y) b ys k (f NEXT-SYNONYM y) (g .fwd .1) (g .some .1) (g .each .1) (g .blocks .0))) in
       rw (g .fwd .0, ne-eqb y 0 z, t)
       (listed-write b ys k (f NEXT-SYNONYM y) m (record { fwd = g .fwd .1; some = g .some .1; each = g .each .1; blocks = g .blocks .1 }) (omega arith))
 

@@ -5,12 +5,14 @@ use mathlib.Core.Bool.{Bool, true, false}
 use mathlib.Core.List.{List}
 use native.Mathlib.Omega.{arith}
 use lib.ListN.{length, List·getD-eq-default}
-use lib.Dec.{eqb}
-use borrow.Author.Tests.{eq-eqb, ne-eqb}
+use lib.Dec.{T, ltb, eqb}
+use mir.Facts.{ltb-no}
+use borrow.Author.Tests.{eq-eqb, ne-eqb, lt-ltb, le-ltb}
 use Rattle.basics.specs.Basics.{pick}
 use Rattle.words.specs.WordLaws.{val-small}
 use Rattle.check_model.specs.Turns.{turns, moved}
-use Rattle.check_model.specs.Tests.{fld, kindTest, absent, listTest, listed, bucketsFrom, sumFrom, totalOf}
+use Rattle.check_model.specs.Tests.{fld, kindTest, linkTest, unusedTest, absent, listTest, listed, bucketsFrom, sumFrom, totalOf}
+use Rattle.check_model.specs.Bools.{to-T, pick-no}
 use Rattle.check_model.specs.Kinds.{kind-some}
 use Rattle.layout.specs.Addresses.{BLOCK, NEXT-SYNONYM}
 
@@ -44,28 +46,53 @@ pub kind-out : (w : List ℕ) (base i : ℕ) → length w ≤ i → kindTest w b
 unfolding kindTest
 kind-out w base i h = rw (List·getD-eq-default w 0 h) (kind-some base i)
 
+-- an entry that passes a test is among n
+module _ (f : ℕ → ℕ → ℕ) (n e : ℕ) where
+  among : (x : Bool) → T (pick (ltb n e) false x) → e ≤ n
+  among x h = ltb-no {a = n} {b = e} (pick-no (ltb n e) x h .0)
+
+  some-among : (x : Bool) → pick (eqb e 0) false (pick (ltb n e) false x) ≡ true → e ≤ n
+  some-among x h = among x (pick-no (eqb e 0) (pick (ltb n e) false x) (to-T _ h) .1)
+
+  pub unused-low : unusedTest f n e ≡ true → e ≤ n
+  unfolding unusedTest
+  unused-low = some-among _
+
+  pub link-low : (before : ℕ) → linkTest f n e before ≡ true → e ≤ n
+  unfolding linkTest
+  link-low before = some-among _
+
+  pub list-low : (nb b k : ℕ) → listTest f n nb b k e ≡ true → e ≤ n
+  unfolding listTest
+  list-low nb b k h = among _ (to-T _ h)
+
 -- the search for a block
-module _ (f : ℕ → ℕ → ℕ) (b : ℕ) where
-  pub absent-spent : (k e : ℕ) → k ≡ 0 → absent f b k e ≡ true
+module _ (f : ℕ → ℕ → ℕ) (n b : ℕ) where
+  pub absent-spent : (k e : ℕ) → k ≡ 0 → absent f n b k e ≡ true
   unfolding absent
   absent-spent k e h = rw h
 
-  pub absent-end : (k e : ℕ) → e ≡ 0 → absent f b k e ≡ true
+  pub absent-end : (k e : ℕ) → e ≡ 0 → absent f n b k e ≡ true
   unfolding absent
   absent-end zero e h = refl
   absent-end (suc k) e h = rw (eq-eqb e 0 h)
 
-  pub absent-hit : (k e : ℕ) → 0 < k → (e ≡ 0 → ⊥) → f BLOCK e ≡ b → absent f b k e ≡ false
+  pub absent-over : (k e : ℕ) → 0 < k → (e ≡ 0 → ⊥) → n < e → absent f n b k e ≡ false
   unfolding absent
-  absent-hit zero e h z q = absurd (omega arith)
-  absent-hit (suc k) e h z q = rw (ne-eqb e 0 z, eq-eqb (f BLOCK e) b q)
+  absent-over zero e h z o = absurd (omega arith)
+  absent-over (suc k) e h z o = rw (ne-eqb e 0 z, lt-ltb n e o)
 
-  pub absent-next : (k e : ℕ) → 0 < k → (e ≡ 0 → ⊥) → (f BLOCK e ≡ b → ⊥) → absent f b k e ≡ absent f b (k - 1) (f NEXT-SYNONYM e)
+  pub absent-hit : (k e : ℕ) → 0 < k → (e ≡ 0 → ⊥) → e ≤ n → f BLOCK e ≡ b → absent f n b k e ≡ false
   unfolding absent
-  absent-next zero e h z q = absurd (omega arith)
-  absent-next (suc k) e h z q =
+  absent-hit zero e h z l q = absurd (omega arith)
+  absent-hit (suc k) e h z l q = rw (ne-eqb e 0 z, le-ltb n e l, eq-eqb (f BLOCK e) b q)
+
+  pub absent-next : (k e : ℕ) → 0 < k → (e ≡ 0 → ⊥) → e ≤ n → (f BLOCK e ≡ b → ⊥) → absent f n b k e ≡ absent f n b (k - 1) (f NEXT-SYNONYM e)
+  unfolding absent
+  absent-next zero e h z l q = absurd (omega arith)
+  absent-next (suc k) e h z l q =
       let p : suc k - 1 ≡ k = omega arith in
-      rw (ne-eqb e 0 z, ne-eqb (f BLOCK e) b q, p)
+      rw (ne-eqb e 0 z, le-ltb n e l, ne-eqb (f BLOCK e) b q, p)
 
 -- a bucket's list
 module _ (f : ℕ → ℕ → ℕ) (n nb b : ℕ) where
@@ -138,4 +165,4 @@ sum-small w at j (suc k) e a = omega (arith, sum-small w at j k (fld w at 5 e) (
 
 pub total-small : (w : List ℕ) (i : ℕ) → totalOf w i < 72057594306363392
 unfolding totalOf
-total-small w i = omega (arith, val-small w i, val-small w (i + 1))
+total-small w i = omega (arith, val-small w i, val-small w (suc i))

@@ -10,11 +10,15 @@ use Rattle.fnv.specs.Fnv.{fnv}
 use Rattle.settings.specs.Numbers.{settingsNumber}
 use Rattle.settings.specs.Buckets.{buckets}
 use Rattle.layout.specs.Addresses.{CACHE-BLOCKS, NEW-BLOCKS, OLD-BLOCKS, CHAIN-LIMIT, AVERAGE-LIMIT, STORE-BLOCKS, RESIDENTS, SUM, HEAD, TAIL, NEW-BOUNDARY, OLD-BOUNDARY, UNUSED, BLANK-14, BLANK-15, READS, WRITES, INS, OUTS, BLOCK, COUNT, SECTION, MODIFIED, TO-HEAD, TO-TAIL, CHAIN-TO-HEAD, CHAIN-TO-TAIL, NEXT-SYNONYM, chainHead, chainTail}
-use Rattle.layout.specs.Sound.{settingsIn}
+use Rattle.layout.specs.Sound.{settingsIn, totalAt}
 use Rattle.check_model.specs.Turns.{turns, moved}
 
 unfoldable pub fld : List ℕ → ℕ → ℕ → ℕ → ℕ
 fld w at j e = val w (at + 9 * e + j)
+
+-- the same in the part of the words that begins with those of entry 0, if there were one
+unfoldable pub entryWord : List ℕ → ℕ → ℕ → ℕ
+entryWord x j e = val x (9 * e + j)
 
 unfoldable pub headOf : List ℕ → ℕ → ℕ
 headOf w i = val w (chainHead i)
@@ -136,15 +140,16 @@ chainsOk f heads tails cmax r head = chainsFrom f heads tails cmax r head (repli
 
 -- buckets
 
--- no entry from e on, within so many links, has that block
-unfoldable pub absent : (ℕ → ℕ → ℕ) → ℕ → ℕ → ℕ → Bool
-absent f block zero e = true
-absent f block (suc k) e = pick (eqb e 0) true (pick (eqb (f BLOCK e) block) false (absent f block k (f NEXT-SYNONYM e)))
+-- the entries from e on, within so many links, are among n, and none has that block
+unfoldable pub absent : (ℕ → ℕ → ℕ) → ℕ → ℕ → ℕ → ℕ → Bool
+absent f n block zero e = true
+absent f n block (suc k) e =
+    pick (eqb e 0) true (pick (ltb n e) false (pick (eqb (f BLOCK e) block) false (absent f n block k (f NEXT-SYNONYM e))))
 
 unfoldable pub listTest : (ℕ → ℕ → ℕ) → ℕ → ℕ → ℕ → ℕ → ℕ → Bool
 listTest f n nb b k e =
     pick (ltb n e) false (pick (eqb (f COUNT e) 0) false
-    (pick (eqb (fnv (f BLOCK e) % nb) b) (absent f (f BLOCK e) k (f NEXT-SYNONYM e)) false))
+    (pick (eqb (fnv (f BLOCK e) % nb) b) (absent f n (f BLOCK e) k (f NEXT-SYNONYM e)) false))
 
 -- what is left of a budget after a bucket's list, and 1; 0 where the list is wrong
 unfoldable pub listed : (ℕ → ℕ → ℕ) → ℕ → ℕ → ℕ → ℕ → ℕ → ℕ
@@ -165,7 +170,7 @@ firstOf w start b = val w (start + b)
 -- totals
 
 unfoldable pub totalOf : List ℕ → ℕ → ℕ
-totalOf w i = val w i + 268435456 * val w (i + 1)
+totalOf w i = totalAt w i
 
 -- the numbers of the header
 

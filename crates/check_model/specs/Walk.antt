@@ -1,20 +1,22 @@
 -- The stack's tests in one walk: links, numbers, chains and sums of an entry while it is at hand; the same as one walk for each.
-use Prim.Native.Nat.{ℕ, zero, suc, _+_, _*_, _-_, _<_, _≤_}
+use Prim.Native.Nat.{ℕ, zero, suc, _+_, _*_, _-_, _%_, _^_, _<_, _≤_}
 use native.Mathlib.Omega.{arith}
 use borrow.Author.Tests.{eq-eqb, ne-eqb, lt-ltb, le-ltb}
-use mathlib.Core.Path.{_≡_, refl, ap, _∙_}
+use mathlib.Core.Path.{_≡_, refl, sym, ap, _∙_}
 use mathlib.Core.Logic.{⊎-elim}
 use mathlib.Core.Bool.{Bool, true, false}
 use mathlib.Core.List.{List}
-use lib.ListN.{replicate}
+use lib.ListN.{length, getD, take, drop, replicate, length-drop}
+use lib.Seq.{getD-drop, take-length}
 use lib.Dec.{T, ltb, eqb}
 use Rattle.basics.specs.Basics.{pick}
 use Rattle.words.specs.Words.{val}
 use Rattle.layout.specs.Addresses.{RESIDENTS, SUM, HEAD, TAIL, NEW-BOUNDARY, OLD-BOUNDARY, UNUSED, BLANK-14, BLANK-15, READS, WRITES, INS, OUTS, COUNT, MODIFIED, TO-TAIL}
 use Rattle.check_model.specs.Turns.{turns, moved}
 use Rattle.check_model.specs.Fields.{less}
-use Rattle.check_model.specs.Bools.{same-truth, pick-yes, yes-pick}
-use Rattle.check_model.specs.Tests.{fld, headOf, tailOf, firstOf, linkTest, fieldTest, chainTest, lastAt, noted, endsOk, stackOk, fieldsOk, chainsOk, sumOf, nthOf, atPosition, totalOf, numbersTest, totalsTest, unusedOk, bucketsFrom, listsTest}
+use Rattle.check_model.specs.LoopLaws.{link-low}
+use Rattle.check_model.specs.Bools.{is-true, to-T, same-truth, pick-yes, yes-pick}
+use Rattle.check_model.specs.Tests.{fld, entryWord, headOf, tailOf, firstOf, linkTest, fieldTest, chainTest, lastAt, noted, endsOk, stackOk, fieldsOk, chainsOk, sumOf, nthOf, atPosition, totalOf, numbersTest, totalsTest, unusedOk, bucketsFrom, listsTest}
 
 -- loops side by side
 
@@ -77,6 +79,10 @@ met p q e a = pick (eqb p q) e a
 unfoldable pub entryTest : (ℕ → ℕ → ℕ) → (ℕ → ℕ) → ℕ → ℕ → ℕ → ℕ → ℕ → ℕ → ℕ → ℕ → List ℕ → Bool
 entryTest f heads n m new mid cmax e before p l =
     pick (linkTest f n e before) (pick (fieldTest f m new mid e p) (chainTest f heads cmax e (lastAt l (f COUNT e))) false) false
+
+pub entry-low : (f : ℕ → ℕ → ℕ) (heads : ℕ → ℕ) (n m new mid cmax e before p : ℕ) (l : List ℕ) → entryTest f heads n m new mid cmax e before p l ≡ true → e ≤ n
+unfolding entryTest
+entry-low f heads n m new mid cmax e before p l h = link-low f n e before (is-true _ (pick-yes (linkTest f n e before) _ (to-T _ h) .0))
 
 unfoldable pub walkEnd : List ℕ → (ℕ → ℕ → ℕ) → ℕ → ℕ → ℕ → ℕ → ℕ → ℕ → ℕ → List ℕ → ℕ → ℕ → Bool
 walkEnd w f n cmax average e before s marks l at-new at-old =
@@ -192,11 +198,26 @@ module _ (w : List ℕ) (f : ℕ → ℕ → ℕ) (n m new old cmax average r he
         old-is,
       )
 
+-- the entries' words in the part that begins with entry 0
+
+entry-word : (w : List ℕ) (at j e : ℕ) → entryWord (drop at w) j e ≡ fld w at j e
+unfolding entryWord fld val
+entry-word w at j e =
+    let q : at + (9 * e + j) ≡ at + 9 * e + j = omega arith in
+    ap (λ v. v % 2 ^ 28) (getD-drop at w (9 * e + j) 0 ∙ ap (λ k. getD w k 0) q)
+
+entry-words : (w : List ℕ) (at : ℕ) → entryWord (drop at w) ≡ fld w at
+entry-words w at = λ i j e. entry-word w at j e i
+
+-- all words from a place on
+pub rest : (w : List ℕ) (at : ℕ) → take (length w - at) (drop at w) ≡ drop at w
+rest w at = ap (λ k. take k (drop at w)) (sym (length-drop at w)) ∙ take-length (drop at w)
+
 -- the lists, with the walk
 
 unfoldable pub listsWalk : List ℕ → ℕ → ℕ → ℕ → ℕ → ℕ → ℕ → ℕ → Bool
 listsWalk w n new old cmax average m nb =
-    let f = fld w (15 + 2 * cmax + nb) in
+    let f = entryWord (drop (15 + 2 * cmax + nb) w) in
     pick (ltb n (val w RESIDENTS)) false
     (pick (walkTest w f n m new (n - old) cmax average (val w RESIDENTS) (val w HEAD))
     (pick (unusedOk f n (n - val w RESIDENTS) (val w UNUSED))
@@ -246,6 +267,7 @@ module _ (w : List ℕ) (n new old cmax average m nb : ℕ) where
   unfolding listsTest listsWalk
   lists-walk =
       rw (
+        entry-words w (15 + 2 * cmax + nb),
         walk-same w fw n m new old cmax average (val w RESIDENTS) (val w HEAD),
         regroup (stackOk fw n (val w RESIDENTS) (val w HEAD) (val w TAIL)) (unusedOk fw n (n - val w RESIDENTS) (val w UNUSED)) (fieldsOk fw m new (n - old) (val w RESIDENTS) (val w HEAD)) (numbersTest w fw n new old average (val w RESIDENTS) (val w HEAD)) (chainsOk fw (headOf w) (tailOf w) cmax (val w RESIDENTS) (val w HEAD)) (bucketsFrom fw (firstOf w (24 + 2 * cmax)) n nb nb 0 (val w RESIDENTS)) (totalsTest w fw (val w RESIDENTS) (val w HEAD)),
       )

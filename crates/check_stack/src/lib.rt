@@ -1,14 +1,16 @@
 ghost use mathlib.Core.Path.{_≡_};
 ghost use Prim.Native.Nat.{_+_, _*_, _≤_, _<_};
 ghost use lib.ListN.{length};
-ghost use Rattle.check_model.specs.Nines.{hasKind, nineTest, ninesOk};
-ghost use Rattle.check_model.specs.Tests.{fieldTest, fld, kindAt, kindTest, kindsOk, linkTest, sectionAt, unusedOk, unusedTest};
+ghost use Rattle.check_model.specs.Nines.{hasKind, linksOk, nineTest, ninesOk};
+ghost use Rattle.check_model.specs.Tests.{entryWord, fieldTest, kindAt, kindTest, kindsOk, linkTest, sectionAt, unusedOk, unusedTest};
 
-// Word j of entry e.
-pub fn field(d: &[u32], at: u32, j: u32, e: u32) -> u32
-    ensures { λ r. ⌜ r ≡ fld (now (d .entry)) at j e ⌝ }
+// Word j of entry e. Here and below x are the words from 9 before those of entry 1 on: entry e has the nine from 9 × e on.
+pub fn field(x: &[u32], j: u32, e: u32) -> u32
+    requires { ⌜ 9 * e + j < length (now x) ⌝ }
+    ensures { λ r. ⌜ r ≡ entryWord (now (x .entry)) j e ⌝ }
 {
-    words::get(d, at as usize + 9 * (e as usize) + j as usize)
+    let i = 9 * (e as usize) + j as usize;
+    x[i] % words::VALUES
 }
 
 // The kind that word i has to have.
@@ -42,12 +44,12 @@ fn kind_test(d: &[u32], base: usize, i: usize) -> bool
     false
 }
 
-// The kinds of the words before the entries are right; a word that is not there has none.
+// The kinds of the header's words are right; a word that is not there has none.
 fn head_kinds(d: &[u32], base: usize) -> bool
-    ensures { λ r. ⌜ r ≡ kindsOk (now (d .entry)) base base ⌝ }
+    ensures { λ r. ⌜ r ≡ kindsOk (now (d .entry)) base 24 ⌝ }
 {
     let mut i = 0;
-    while i < base {
+    while i < 24 {
         if !kind_test(d, base, i) {
             return false;
         }
@@ -63,36 +65,36 @@ fn has_kind(d: &[u32], i: usize, k: u32) -> bool
     d[i] / 268435456 == k
 }
 
-// The nine words of an entry: four numbers, five links.
+// The words from the header to base are links.
+fn links_ok(d: &[u32], base: usize) -> bool
+    requires { ⌜ base ≤ length (now d) ⌝ }
+    ensures { λ r. ⌜ r ≡ linksOk (now (d .entry)) base ⌝ }
+{
+    let mut i = 24;
+    while i < base {
+        if !has_kind(d, i, 2) {
+            return false;
+        }
+        i += 1;
+    }
+    true
+}
+
+// The nine words of an entry: four numbers, five links. All are looked at, so that nothing here branches.
 fn nine_ok(d: &[u32], i: usize) -> bool
     requires { ⌜ i + 9 ≤ length (now d) ⌝ }
     ensures { λ r. ⌜ r ≡ nineTest (now (d .entry)) i ⌝ }
 {
-    if !has_kind(d, i, 1) {
-        return false;
-    }
-    if !has_kind(d, i + 1, 1) {
-        return false;
-    }
-    if !has_kind(d, i + 2, 1) {
-        return false;
-    }
-    if !has_kind(d, i + 3, 1) {
-        return false;
-    }
-    if !has_kind(d, i + 4, 2) {
-        return false;
-    }
-    if !has_kind(d, i + 5, 2) {
-        return false;
-    }
-    if !has_kind(d, i + 6, 2) {
-        return false;
-    }
-    if !has_kind(d, i + 7, 2) {
-        return false;
-    }
-    has_kind(d, i + 8, 2)
+    let numbers = has_kind(d, i, 1)
+        & has_kind(d, i + 1, 1)
+        & has_kind(d, i + 2, 1)
+        & has_kind(d, i + 3, 1);
+    let links = has_kind(d, i + 4, 2)
+        & has_kind(d, i + 5, 2)
+        & has_kind(d, i + 6, 2)
+        & has_kind(d, i + 7, 2)
+        & has_kind(d, i + 8, 2);
+    numbers & links
 }
 
 fn nines_ok(d: &[u32], base: usize, n: usize) -> bool
@@ -122,12 +124,16 @@ pub fn kinds_ok(d: &[u32], base: usize, n: usize) -> bool
     if !head_kinds(d, base) {
         return false;
     }
+    if !links_ok(d, base) {
+        return false;
+    }
     nines_ok(d, base, n)
 }
 
 // Entry e is one of n, and linked to the one before it.
-pub fn link_test(d: &[u32], at: u32, n: u32, e: u32, before: u32) -> bool
-    ensures { λ r. ⌜ r ≡ linkTest (fld (now (d .entry)) at) n e before ⌝ }
+pub fn link_test(x: &[u32], n: u32, e: u32, before: u32) -> bool
+    requires { ⌜ 9 * n + 8 < length (now x) ⌝ }
+    ensures { λ r. ⌜ r ≡ linkTest (entryWord (now (x .entry))) n e before ⌝ }
 {
     if e == 0 {
         return false;
@@ -135,7 +141,7 @@ pub fn link_test(d: &[u32], at: u32, n: u32, e: u32, before: u32) -> bool
     if e > n {
         return false;
     }
-    field(d, at, layout::TO_HEAD, e) == before
+    field(x, layout::TO_HEAD, e) == before
 }
 
 fn section_at(new: u32, mid: u32, p: u32) -> u32
@@ -151,12 +157,13 @@ fn section_at(new: u32, mid: u32, p: u32) -> u32
 }
 
 // The numbers of the resident at position p are right.
-pub fn field_test(d: &[u32], at: u32, m: u32, new: u32, mid: u32, e: u32, p: u32) -> bool
-    ensures { λ r. ⌜ r ≡ fieldTest (fld (now (d .entry)) at) m new mid e p ⌝ }
+pub fn field_test(x: &[u32], m: u32, new: u32, mid: u32, e: u32, p: u32) -> bool
+    requires { ⌜ 9 * e + 8 < length (now x) ⌝ }
+    ensures { λ r. ⌜ r ≡ fieldTest (entryWord (now (x .entry))) m new mid e p ⌝ }
 {
-    let block = field(d, at, layout::BLOCK, e);
-    let count = field(d, at, layout::COUNT, e);
-    let modified = field(d, at, layout::MODIFIED, e);
+    let block = field(x, layout::BLOCK, e);
+    let count = field(x, layout::COUNT, e);
+    let modified = field(x, layout::MODIFIED, e);
     if block < m {
         if count < 1 {
             return false;
@@ -167,13 +174,14 @@ pub fn field_test(d: &[u32], at: u32, m: u32, new: u32, mid: u32, e: u32, p: u32
         if modified > 1 {
             return false;
         }
-        return field(d, at, layout::SECTION, e) == section_at(new, mid, p);
+        return field(x, layout::SECTION, e) == section_at(new, mid, p);
     }
     false
 }
 
-fn unused_test(d: &[u32], at: u32, n: u32, e: u32) -> bool
-    ensures { λ r. ⌜ r ≡ unusedTest (fld (now (d .entry)) at) n e ⌝ }
+fn unused_test(x: &[u32], n: u32, e: u32) -> bool
+    requires { ⌜ 9 * n + 8 < length (now x) ⌝ }
+    ensures { λ r. ⌜ r ≡ unusedTest (entryWord (now (x .entry))) n e ⌝ }
 {
     if e == 0 {
         return false;
@@ -181,29 +189,30 @@ fn unused_test(d: &[u32], at: u32, n: u32, e: u32) -> bool
     if e > n {
         return false;
     }
-    let a = field(d, at, layout::BLOCK, e) as u64
-        + field(d, at, layout::COUNT, e) as u64
-        + field(d, at, layout::SECTION, e) as u64
-        + field(d, at, layout::MODIFIED, e) as u64;
+    let a = field(x, layout::BLOCK, e) as u64
+        + field(x, layout::COUNT, e) as u64
+        + field(x, layout::SECTION, e) as u64
+        + field(x, layout::MODIFIED, e) as u64;
     a
-        + field(d, at, layout::TO_HEAD, e) as u64
-        + field(d, at, layout::CHAIN_TO_HEAD, e) as u64
-        + field(d, at, layout::CHAIN_TO_TAIL, e) as u64
-        + field(d, at, layout::NEXT_SYNONYM, e) as u64
+        + field(x, layout::TO_HEAD, e) as u64
+        + field(x, layout::CHAIN_TO_HEAD, e) as u64
+        + field(x, layout::CHAIN_TO_TAIL, e) as u64
+        + field(x, layout::NEXT_SYNONYM, e) as u64
         == 0
 }
 
 // The unused list has count entries, all their other values 0.
-pub fn unused_ok(d: &[u32], at: u32, n: u32, count: u32, first: u32) -> bool
-    ensures { λ r. ⌜ r ≡ unusedOk (fld (now (d .entry)) at) n count first ⌝ }
+pub fn unused_ok(x: &[u32], n: u32, count: u32, first: u32) -> bool
+    requires { ⌜ 9 * n + 8 < length (now x) ⌝ }
+    ensures { λ r. ⌜ r ≡ unusedOk (entryWord (now (x .entry))) n count first ⌝ }
 {
     let mut e = first;
     let mut left = count;
     while left > 0 {
-        if !unused_test(d, at, n, e) {
+        if !unused_test(x, n, e) {
             return false;
         }
-        e = field(d, at, layout::TO_TAIL, e);
+        e = field(x, layout::TO_TAIL, e);
         left -= 1;
     }
     e == 0

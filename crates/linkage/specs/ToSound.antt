@@ -294,8 +294,8 @@ module _ (w : List ℕ) (D : Fields) (xs ys : List ℕ) (v : View (shape w) w D)
   total-of : (i : ℕ) → 16 ≤ i → i < 23 → totalOf w i ≡ form.total D (20 + i)
   unfolding totalOf
   total-of i a b =
-      let e : 20 + i + 1 ≡ 20 + (i + 1) = omega arith in
-      rw (e, head-word i (omega arith) (omega arith) (omega arith), head-word (i + 1) (omega arith) (omega arith) (omega arith))
+      let e : 20 + i + 1 ≡ 20 + suc i = omega arith in
+      rw (e, head-word i (omega arith) (omega arith) (omega arith), head-word (suc i) (omega arith) (omega arith) (omega arith))
 
   facts : Facts w
   facts =
@@ -350,4 +350,4 @@ module _ (w : List ℕ) (D : Fields) (xs ys : List ℕ) (v : View (shape w) w D)
 
   pub total-of-linked : (i : ℕ) → 16 ≤ i → i < 23 → totalAt w i ≡ form.total D (20 + i)
   unfolding totalOf
-  total-of-linked i a b = rw (← add-one i) (total-of i a b)
+  total-of-linked i a b = total-of i a b

@@ -1,17 +1,11 @@
 use settings::Settings;
 ghost use mathlib.Core.Path.{_≡_};
-ghost use Prim.Native.Nat.{_≤_, _<_};
+ghost use Prim.Native.Nat.{_+_, _-_, _*_, _≤_, _<_};
+ghost use lib.ListN.{length};
 ghost use Rattle.layout.specs.Sound.{sound};
-ghost use Rattle.check_model.specs.Tests.{fld, headOf, soundTest, totalOf};
+ghost use Rattle.check_model.specs.Masks.{Masks};
+ghost use Rattle.check_model.specs.Tests.{entryWord, headOf, soundTest};
 ghost use Rattle.check_model.specs.Walk.{entryTest, listsWalk, met, numbersWith, totalsWith, walkEnd, walkTest};
-
-// A total, from its two words.
-fn total(d: &[u32], i: u32) -> u64
-    requires { ⌜ i < 100 ⌝ }
-    ensures { λ r. ⌜ r ≡ totalOf (now (d .entry)) i ⌝ }
-{
-    words::value(d, i) as u64 + 268435456 * (words::value(d, i + 1) as u64)
-}
 
 // The numbers of the header beside the stack: the sum s of counts and the entries at the boundaries.
 fn numbers_ok(d: &[u32], n: u32, average: u32, s: u64, middle: u32, aged: u32) -> bool
@@ -43,10 +37,10 @@ fn totals_ok(d: &[u32], marks: u64) -> bool
     requires { ⌜ marks ≤ 17592186044416 ⌝ }
     ensures { λ r. ⌜ r ≡ totalsWith (now (d .entry)) marks ⌝ }
 {
-    if total(d, layout::INS) > total(d, layout::READS) {
+    if header::total_at(d, layout::INS) > header::total_at(d, layout::READS) {
         return false;
     }
-    if total(d, layout::OUTS) + marks > total(d, layout::WRITES) {
+    if header::total_at(d, layout::OUTS) + marks > header::total_at(d, layout::WRITES) {
         return false;
     }
     true
@@ -55,7 +49,7 @@ fn totals_ok(d: &[u32], marks: u64) -> bool
 // The resident e at position p: linked, its numbers right, behind the last of its count.
 fn entry_ok(
     d: &[u32],
-    at: u32,
+    x: &[u32],
     n: u32,
     m: u32,
     new: u32,
@@ -66,22 +60,23 @@ fn entry_ok(
     p: u32,
     last: &[u32; 65],
 ) -> bool
-    ensures { λ r. ⌜ r ≡ entryTest (fld (now (d .entry)) at) (headOf (now (d .entry))) n m new mid cmax e before p (now (last .entry)) ⌝ }
+    requires { ⌜ 9 * n + 8 < length (now x) ⌝ }
+    ensures { λ r. ⌜ r ≡ entryTest (entryWord (now (x .entry))) (headOf (now (d .entry))) n m new mid cmax e before p (now (last .entry)) ⌝ }
 {
-    if !check_stack::link_test(d, at, n, e, before) {
+    if !check_stack::link_test(x, n, e, before) {
         return false;
     }
-    if !check_stack::field_test(d, at, m, new, mid, e, p) {
+    if !check_stack::field_test(x, m, new, mid, e, p) {
         return false;
     }
-    let c = check_stack::field(d, at, layout::COUNT, e);
-    check_lists::chain_test(d, at, cmax, e, check_lists::last_of(last, c))
+    let c = check_stack::field(x, layout::COUNT, e);
+    check_lists::chain_test(d, x, cmax, e, check_lists::last_of(last, c))
 }
 
 // What is left to test where the walk ends.
 fn end_ok(
     d: &[u32],
-    at: u32,
+    x: &[u32],
     n: u32,
     cmax: u32,
     average: u32,
@@ -94,7 +89,7 @@ fn end_ok(
     aged: u32,
 ) -> bool
     requires { ⌜ (n ≤ 4096) × (average ≤ 1000) × (marks ≤ 17592186044416) ⌝ }
-    ensures { λ r. ⌜ r ≡ walkEnd (now (d .entry)) (fld (now (d .entry)) at) n cmax average e before s marks (now (last .entry)) middle aged ⌝ }
+    ensures { λ r. ⌜ r ≡ walkEnd (now (d .entry)) (entryWord (now (x .entry))) n cmax average e before s marks (now (last .entry)) middle aged ⌝ }
 {
     if e != 0 {
         return false;
@@ -102,7 +97,7 @@ fn end_ok(
     if before != words::value(d, layout::TAIL) {
         return false;
     }
-    if !check_lists::ends_ok(d, at, cmax, last) {
+    if !check_lists::ends_ok(d, x, cmax, last) {
         return false;
     }
     if !numbers_ok(d, n, average, s, middle, aged) {
@@ -124,7 +119,7 @@ fn met_at(p: u32, q: u32, e: u32, a: u32) -> u32
 // One walk along the stack: links, numbers, chains, sums and boundaries.
 fn walk_ok(
     d: &[u32],
-    at: u32,
+    x: &[u32],
     n: u32,
     m: u32,
     new: u32,
@@ -134,8 +129,8 @@ fn walk_ok(
     count: u32,
     head: u32,
 ) -> bool
-    requires { ⌜ (n ≤ 4096) × (amax ≤ 1000) × (count ≤ 4096) ⌝ }
-    ensures { λ r. ⌜ r ≡ walkTest (now (d .entry)) (fld (now (d .entry)) at) n m new mid cmax amax count head ⌝ }
+    requires { ⌜ (n ≤ 4096) × (amax ≤ 1000) × (count ≤ 4096) × (9 * n + 8 < length (now x)) ⌝ }
+    ensures { λ r. ⌜ r ≡ walkTest (now (d .entry)) (entryWord (now (x .entry))) n m new mid cmax amax count head ⌝ }
 {
     let mut last = [0; 65];
     let mut e = head;
@@ -146,40 +141,41 @@ fn walk_ok(
     let mut young = 0;
     let mut old = 0;
     while p < count {
-        if !entry_ok(d, at, n, m, new, mid, cmax, e, before, p, &last) {
+        if !entry_ok(d, x, n, m, new, mid, cmax, e, before, p, &last) {
             return false;
         }
-        let c = check_stack::field(d, at, layout::COUNT, e);
+        let c = check_stack::field(x, layout::COUNT, e);
         s += c as u64;
-        marks += check_stack::field(d, at, layout::MODIFIED, e) as u64;
+        marks += check_stack::field(x, layout::MODIFIED, e) as u64;
         check_lists::note(&mut last, c, e);
         young = met_at(p, new, e, young);
         old = met_at(p, mid, e, old);
         before = e;
-        e = check_stack::field(d, at, layout::TO_TAIL, e);
+        e = check_stack::field(x, layout::TO_TAIL, e);
         p += 1;
     }
-    end_ok(d, at, n, cmax, amax, e, before, s, marks, &last, young, old)
+    end_ok(d, x, n, cmax, amax, e, before, s, marks, &last, young, old)
 }
 
 // The stack, the unused list and the rest, of legal settings.
 fn lists_ok(d: &[u32], n: u32, new: u32, old: u32, cmax: u32, average: u32, m: u32, nb: u32) -> bool
-    requires { ⌜ (n ≤ 4096) × (old ≤ n) × (cmax ≤ 64) × (average ≤ 1000) × (0 < nb) × (nb ≤ 4096) ⌝ }
+    requires { ⌜ (n ≤ 4096) × (old ≤ n) × (cmax ≤ 64) × (average ≤ 1000) × (0 < nb) × (nb ≤ 4096) × Masks (nb - 1) nb × (24 + 2 * cmax + nb + 9 * n ≤ length (now d)) ⌝ }
     ensures { λ r. ⌜ r ≡ listsWalk (now (d .entry)) n new old cmax average m nb ⌝ }
 {
-    let at = 15 + 2 * cmax + nb;
+    let at = 15 + 2 * (cmax as usize) + nb as usize;
+    let x = &d[at..];
     let count = words::value(d, layout::RESIDENTS);
     let head = words::value(d, layout::HEAD);
     if count > n {
         return false;
     }
-    if !walk_ok(d, at, n, m, new, n - old, cmax, average, count, head) {
+    if !walk_ok(d, x, n, m, new, n - old, cmax, average, count, head) {
         return false;
     }
-    if !check_stack::unused_ok(d, at, n, n - count, words::value(d, layout::UNUSED)) {
+    if !check_stack::unused_ok(x, n, n - count, words::value(d, layout::UNUSED)) {
         return false;
     }
-    check_lists::buckets_ok(d, at, 24 + 2 * cmax, n, nb, count)
+    check_lists::buckets_ok(d, x, 24 + 2 * cmax, n, nb, count)
 }
 
 fn passes(d: &[u32]) -> bool

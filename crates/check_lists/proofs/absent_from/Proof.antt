@@ -1,8 +1,8 @@
 use borrow.Author.Needs.{needs}
 use mathlib.Core.Path.{_≡_, refl, sym, _∙_}
 use native.Mathlib.Omega.{arith}
-use Rattle.check_model.specs.Tests.{fld, absent}
-use Rattle.check_model.specs.LoopLaws.{absent-end, absent-hit, absent-next, absent-spent}
+use Rattle.check_model.specs.Tests.{entryWord, absent}
+use Rattle.check_model.specs.LoopLaws.{absent-end, absent-over, absent-hit, absent-next, absent-spent}
 use Rattle.check_stack.proofs.field.Reads as field-reads
 use Rattle.check_lists.proofs.absent_from.Statement.{statement}
 use Rattle.check_lists.proofs.absent_from.Tie as tie
@@ -10,22 +10,25 @@ use Rattle.check_lists.proofs.absent_from.Reads as reads
 use Rattle.check_lists.proofs.absent_from.Lts as lts
 
 abbrev Inv-loop : tie.InvT-loop
-Inv-loop d at block budget first e₀ left₀ e left = absent (fld d at) block left e ≡ absent (fld d at) block budget first
+Inv-loop x n block budget first e₀ left₀ e left = absent (entryWord x) n block left e ≡ absent (entryWord x) n block budget first
 
 abbrev μ-loop : tie.MeasureT-loop
-μ-loop d at block budget first e₀ left₀ e left = left
+μ-loop x n block budget first e₀ left₀ e left = left
 
 loop-holds : tie.Need-loop-holds Inv-loop μ-loop
 loop-holds c = refl
 
 returns : tie.Need-returns Inv-loop μ-loop
-returns c = let l = c .before .before .loop in sym (absent-end _ _ (l .left) (l .e) (c .if1 .taken)) ∙ l .inv
+returns c = let l = c .before .before .loop in sym (absent-end _ _ _ (l .left) (l .e) (c .if1 .taken)) ∙ l .inv
+
+returns-2 : tie.Need-returns-2 Inv-loop μ-loop
+returns-2 c = let l = c .before .before .before .loop in sym (absent-over _ _ _ (l .left) (l .e) (c .before .before .loop-test .taken) (c .before .if1 .left) (c .if2 .taken)) ∙ l .inv
 
 field-requires : tie.Need-field-requires Inv-loop μ-loop
 field-requires c κs = search needs
 
-returns-2 : tie.Need-returns-2 Inv-loop μ-loop
-returns-2 c = let l = c .before .before .before .before .loop in sym (absent-hit _ _ (l .left) (l .e) (c .before .before .before .loop-test .taken) (c .before .before .if1 .left) (sym (c .before .field .ensures) ∙ c .if2 .taken)) ∙ l .inv
+returns-3 : tie.Need-returns-3 Inv-loop μ-loop
+returns-3 c = let l = c .before .before .before .before .before .loop in sym (absent-hit _ _ _ (l .left) (l .e) (c .before .before .before .before .loop-test .taken) (c .before .before .before .if1 .left) (c .before .before .if2 .left) (sym (c .before .field .ensures) ∙ c .if3 .taken)) ∙ l .inv
 
 field-requires-2 : tie.Need-field-requires-2 Inv-loop μ-loop
 field-requires-2 c κs = search needs
@@ -37,10 +40,10 @@ loop-less : tie.Need-loop-less Inv-loop μ-loop
 loop-less c = search needs
 
 loop-again : tie.Need-loop-again Inv-loop μ-loop
-loop-again c = let l = c .before .before .before .before .before .loop in rw (c .field2 .ensures) (sym (absent-next _ _ (l .left) (l .e) (c .before .before .before .before .loop-test .taken) (c .before .before .before .if1 .left) (λ q. c .before .if2 .left (c .before .before .field .ensures ∙ q))) ∙ l .inv)
+loop-again c = let l = c .before .before .before .before .before .before .loop in rw (c .field2 .ensures) (sym (absent-next _ _ _ (l .left) (l .e) (c .before .before .before .before .before .loop-test .taken) (c .before .before .before .before .if1 .left) (c .before .before .before .if2 .left) (λ q. c .before .if3 .left (c .before .before .field .ensures ∙ q))) ∙ l .inv)
 
-returns-3 : tie.Need-returns-3 Inv-loop μ-loop
-returns-3 c = let l = c .before .loop in sym (absent-spent _ _ (l .left) (l .e) (omega arith)) ∙ l .inv
+returns-4 : tie.Need-returns-4 Inv-loop μ-loop
+returns-4 c = let l = c .before .loop in sym (absent-spent _ _ _ (l .left) (l .e) (omega arith)) ∙ l .inv
 
 pub absent-from-spec : {M : Type 1} → statement M
 absent-from-spec =
@@ -50,10 +53,11 @@ absent-from-spec =
     μ-loop
     loop-holds
     returns
-    field-requires
     returns-2
+    field-requires
+    returns-3
     field-requires-2
     sub-left
     loop-less
     loop-again
-    returns-3)
+    returns-4)

@@ -3,8 +3,8 @@ use borrow.Author.Tests.{not-true, not-false}
 use mathlib.Core.Path.{_≡_, refl, sym, _∙_}
 use Prim.Native.Nat.{_≤_}
 use native.Mathlib.Omega.{arith}
-use Rattle.check_model.specs.Tests.{fld, listed}
-use Rattle.check_model.specs.LoopLaws.{listed-end, listed-over, listed-fail, listed-next}
+use Rattle.check_model.specs.Tests.{entryWord, listed}
+use Rattle.check_model.specs.LoopLaws.{list-low, listed-end, listed-over, listed-fail, listed-next}
 use Rattle.check_stack.proofs.field.Reads as field-reads
 use Rattle.check_lists.proofs.bucket.Statement.{statement}
 use Rattle.check_lists.proofs.bucket.Tie as tie
@@ -13,10 +13,10 @@ use Rattle.check_lists.proofs.bucket.Lts as lts
 use Rattle.check_lists.proofs.list_test.Reads as list-test-reads
 
 abbrev Inv-loop : tie.InvT-loop
-Inv-loop d at n nb b budget first e₀ left₀ e left = (listed (fld d at) n nb b left e ≡ listed (fld d at) n nb b budget first) × (left ≤ budget)
+Inv-loop x n nb b budget first e₀ left₀ e left = (listed (entryWord x) n nb b left e ≡ listed (entryWord x) n nb b budget first) × (left ≤ budget)
 
 abbrev μ-loop : tie.MeasureT-loop
-μ-loop d at n nb b budget first e₀ left₀ e left = left
+μ-loop x n nb b budget first e₀ left₀ e left = left
 
 loop-holds : tie.Need-loop-holds Inv-loop μ-loop
 loop-holds c = (refl, omega arith)
@@ -37,7 +37,7 @@ returns-2 : tie.Need-returns-2 Inv-loop μ-loop
 returns-2 c = let l = c .before .before .before .before .loop in sym (listed-fail _ _ _ _ (l .left) (l .e) (c .before .before .before .loop-test .taken) (c .before .before .if1 .left) (sym (c .before .list-test .ensures) ∙ not-true _ (c .if2 .taken))) ∙ l .inv .0
 
 field-requires : tie.Need-field-requires Inv-loop μ-loop
-field-requires c κs = search needs
+field-requires c κs = let l = c .before .before .before .before .loop in let low = list-low _ _ (l .e) _ _ _ (sym (c .before .list-test .ensures) ∙ not-false _ (c .if2 .left)) in omega (arith, low)
 
 sub-left : tie.Need-sub-left Inv-loop μ-loop
 sub-left c = search needs

@@ -3,7 +3,7 @@ use mathlib.Core.Path.{_≡_, sym, _∙_}
 use Prim.Native.Nat.{_-_, _≤_}
 use native.Mathlib.Omega.{arith}
 use native.Mathlib.Nat.{sub-zero}
-use Rattle.check_model.specs.Tests.{fld, firstOf, listed, bucketsFrom}
+use Rattle.check_model.specs.Tests.{entryWord, firstOf, listed, bucketsFrom}
 use Rattle.check_model.specs.LoopLaws.{buckets-fail, buckets-go, buckets-end, listed-le}
 use Rattle.words.proofs.get.Reads as get-reads
 use Rattle.check_lists.proofs.buckets_ok.Statement.{statement}
@@ -13,10 +13,10 @@ use Rattle.check_lists.proofs.buckets_ok.Lts as lts
 use Rattle.check_lists.proofs.bucket.Reads as bucket-reads
 
 abbrev Inv-loop : tie.InvT-loop
-Inv-loop d at start n nb count b₀ left₀ b left = (bucketsFrom (fld d at) (firstOf d start) n nb (nb - b) b left ≡ bucketsFrom (fld d at) (firstOf d start) n nb nb 0 count) × (left ≤ count)
+Inv-loop d x start n nb count b₀ left₀ b left = (bucketsFrom (entryWord x) (firstOf d start) n nb (nb - b) b left ≡ bucketsFrom (entryWord x) (firstOf d start) n nb nb 0 count) × (left ≤ count)
 
 abbrev μ-loop : tie.MeasureT-loop
-μ-loop d at start n nb count b₀ left₀ b left = nb - b
+μ-loop d x start n nb count b₀ left₀ b left = nb - b
 
 loop-holds : tie.Need-loop-holds Inv-loop μ-loop
 loop-holds c = (rw sub-zero, omega arith)
@@ -37,8 +37,8 @@ returns : tie.Need-returns Inv-loop μ-loop
 unfolding firstOf
 returns c =
     let l = c .before .before .before .before .loop in
-    let a = c .before .before .before .before .before .before .args in
-    let g : c .before .bucket .result ≡ listed (fld (a .d .now) (a .at)) (a .n) (a .nb) (l .b) (l .left) (firstOf (a .d .now) (a .start) (l .b)) = rw (← c .before .before .get .ensures) (c .before .bucket .ensures) in
+    let a = c .before .before .before .before .before .before .before .args in
+    let g : c .before .bucket .result ≡ listed (entryWord (a .x .now)) (a .n) (a .nb) (l .b) (l .left) (firstOf (a .d .now) (a .start) (l .b)) = rw (← c .before .before .get .ensures) (c .before .bucket .ensures) in
     sym (buckets-fail _ _ _ _ _ (l .b) (l .left) (omega arith) (sym g ∙ c .if1 .taken)) ∙ l .inv .0
 
 sub-left : tie.Need-sub-left Inv-loop μ-loop
@@ -54,9 +54,9 @@ loop-again : tie.Need-loop-again Inv-loop μ-loop
 unfolding firstOf
 loop-again c =
     let l = c .before .before .before .before .loop in
-    let a = c .before .before .before .before .before .before .args in
-    let g : c .before .bucket .result ≡ listed (fld (a .d .now) (a .at)) (a .n) (a .nb) (l .b) (l .left) (firstOf (a .d .now) (a .start) (l .b)) = rw (← c .before .before .get .ensures) (c .before .bucket .ensures) in
-    (rw g (sym (buckets-go _ _ _ _ _ (l .b) (l .left) (c .before .before .before .loop-test .taken) (λ q. c .if1 .left (g ∙ q))) ∙ l .inv .0), omega (arith, g, listed-le (fld (a .d .now) (a .at)) (a .n) (a .nb) (l .b) (l .left) (firstOf (a .d .now) (a .start) (l .b))))
+    let a = c .before .before .before .before .before .before .before .args in
+    let g : c .before .bucket .result ≡ listed (entryWord (a .x .now)) (a .n) (a .nb) (l .b) (l .left) (firstOf (a .d .now) (a .start) (l .b)) = rw (← c .before .before .get .ensures) (c .before .bucket .ensures) in
+    (rw g (sym (buckets-go _ _ _ _ _ (l .b) (l .left) (c .before .before .before .loop-test .taken) (λ q. c .if1 .left (g ∙ q))) ∙ l .inv .0), omega (arith, g, listed-le (entryWord (a .x .now)) (a .n) (a .nb) (l .b) (l .left) (firstOf (a .d .now) (a .start) (l .b))))
 
 returns-2 : tie.Need-returns-2 Inv-loop μ-loop
 returns-2 c = let l = c .before .loop in sym (buckets-end _ _ _ _ _ (l .b) (l .left) (omega arith)) ∙ l .inv .0

@@ -5,7 +5,7 @@ use mathlib.Core.Bool.{true}
 use Prim.Native.Nat.{_-_}
 use native.Mathlib.Omega.{arith}
 use native.Mathlib.Nat.{sub-zero}
-use Rattle.check_model.specs.Tests.{fld, headOf, tailOf, endsOk, endsFrom}
+use Rattle.check_model.specs.Tests.{entryWord, headOf, tailOf, endsOk, endsFrom}
 use Rattle.check_model.specs.LoopLaws.{turns-fail, turns-up, turns-end}
 use Rattle.check_lists.proofs.ends_ok.Statement.{statement}
 use Rattle.check_lists.proofs.ends_ok.Tie as tie
@@ -15,10 +15,10 @@ use Rattle.check_lists.proofs.end_test.Reads as end-test-reads
 use Rattle.check_lists.proofs.last_of.Reads as last-of-reads
 
 abbrev Inv-loop : tie.InvT-loop
-Inv-loop d at cmax last i₀ i = endsFrom (fld d at) (headOf d) (tailOf d) last (cmax - i) i ≡ endsOk (fld d at) (headOf d) (tailOf d) cmax last
+Inv-loop d x cmax last i₀ i = endsFrom (entryWord x) (headOf d) (tailOf d) last (cmax - i) i ≡ endsOk (entryWord x) (headOf d) (tailOf d) cmax last
 
 abbrev μ-loop : tie.MeasureT-loop
-μ-loop d at cmax last i₀ i = cmax - i
+μ-loop d x cmax last i₀ i = cmax - i
 
 loop-holds : tie.Need-loop-holds Inv-loop μ-loop
 unfolding endsOk

@@ -1,27 +1,27 @@
-use borrow.Author.Tests.{lt-ltb, le-ltb, eq-eqb, ne-eqb}
+use mathlib.Core.Path.{refl}
 use borrow.Author.Needs.{needs}
-use Rattle.check_model.specs.Tests.{fld}
-use Rattle.words.proofs.get.Reads as get-reads
+use Rattle.words.specs.Words.{val}
+use Rattle.check_model.specs.Tests.{entryWord}
 use Rattle.check_stack.proofs.field.Statement.{statement}
 use Rattle.check_stack.proofs.field.Tie as tie
 use Rattle.check_stack.proofs.field.Reads as reads
 use Rattle.check_stack.proofs.field.Lts as lts
 
-mul-get : tie.Need-mul-get
-mul-get c = search needs
+mul-i : tie.Need-mul-i
+mul-i c = search needs
 
-add-get : tie.Need-add-get
-add-get c = search needs
+add-i : tie.Need-add-i
+add-i c = search needs
 
-add-get-2 : tie.Need-add-get-2
-add-get-2 c = search needs
+mul-result : tie.Need-mul-result
+mul-result c = search needs
 
-get-requires : tie.Need-get-requires
-get-requires c κs = search needs
+shared-slice-read-result : tie.Need-shared-slice-read-result
+shared-slice-read-result c = search needs
 
 returns : tie.Need-returns
-unfolding fld
-returns c = search (needs, lt-ltb, le-ltb, eq-eqb, ne-eqb, ← c .get .ensures)
+unfolding entryWord val
+returns c = refl
 
 pub field-spec : {M : Type 1} → statement M
-field-spec = tie.close (tie.spec mul-get add-get add-get-2 get-requires returns)
+field-spec = tie.close (tie.spec mul-i add-i mul-result shared-slice-read-result returns)

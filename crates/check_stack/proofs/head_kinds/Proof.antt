@@ -14,10 +14,10 @@ use Rattle.check_stack.proofs.head_kinds.Lts as lts
 use Rattle.check_stack.proofs.kind_test.Reads as kind-test-reads
 
 abbrev Inv-loop : tie.InvT-loop
-Inv-loop d base i₀ i = kindsFrom d base (base - i) i ≡ kindsOk d base base
+Inv-loop d base i₀ i = kindsFrom d base (24 - i) i ≡ kindsOk d base 24
 
 abbrev μ-loop : tie.MeasureT-loop
-μ-loop d base i₀ i = base - i
+μ-loop d base i₀ i = 24 - i
 
 loop-holds : tie.Need-loop-holds Inv-loop μ-loop
 unfolding kindsOk

@@ -2,8 +2,8 @@ use borrow.Author.Needs.{needs}
 use borrow.Author.Tests.{not-true, not-false}
 use mathlib.Core.Path.{_≡_, refl, sym, _∙_}
 use native.Mathlib.Omega.{arith}
-use Rattle.check_model.specs.Tests.{fld, unusedOk, unusedFrom}
-use Rattle.check_model.specs.LoopLaws.{turns-fail, turns-go, turns-end}
+use Rattle.check_model.specs.Tests.{entryWord, unusedOk, unusedFrom}
+use Rattle.check_model.specs.LoopLaws.{turns-fail, turns-go, turns-end, unused-low}
 use Rattle.check_stack.proofs.unused_ok.Statement.{statement}
 use Rattle.check_stack.proofs.unused_ok.Tie as tie
 use Rattle.check_stack.proofs.unused_ok.Reads as reads
@@ -12,10 +12,10 @@ use Rattle.check_stack.proofs.field.Reads as field-reads
 use Rattle.check_stack.proofs.unused_test.Reads as unused-test-reads
 
 abbrev Inv-loop : tie.InvT-loop
-Inv-loop d at n count first e₀ left₀ e left = unusedFrom (fld d at) n left e ≡ unusedOk (fld d at) n count first
+Inv-loop x n count first e₀ left₀ e left = unusedFrom (entryWord x) n left e ≡ unusedOk (entryWord x) n count first
 
 abbrev μ-loop : tie.MeasureT-loop
-μ-loop d at n count first e₀ left₀ e left = left
+μ-loop x n count first e₀ left₀ e left = left
 
 loop-holds : tie.Need-loop-holds Inv-loop μ-loop
 unfolding unusedOk
@@ -28,7 +28,7 @@ returns : tie.Need-returns Inv-loop μ-loop
 returns c = let l = c .before .before .before .loop in sym (turns-fail _ _ _ (l .left) (l .e) (c .before .before .loop-test .taken) (sym (c .before .unused-test .ensures) ∙ not-true _ (c .if1 .taken))) ∙ l .inv
 
 field-requires : tie.Need-field-requires Inv-loop μ-loop
-field-requires c κs = search needs
+field-requires c κs = let l = c .before .before .before .loop in let low = unused-low _ _ (l .e) (sym (c .before .unused-test .ensures) ∙ not-false _ (c .if1 .left)) in omega (arith, low)
 
 sub-left : tie.Need-sub-left Inv-loop μ-loop
 sub-left c = search needs

@@ -1,3 +1,6 @@
+use mathlib.Core.Path.{sym, _∙_}
+use native.Mathlib.Omega.{arith}
+use Rattle.check_model.specs.LoopLaws.{link-low}
 use Rattle.check_model.specs.Walk.{entryTest}
 use borrow.Author.Tests.{not-true, not-false}
 use borrow.Author.Needs.{needs}
@@ -19,20 +22,20 @@ unfolding entryTest
 returns c = rw (← c .before .link-test .ensures, not-true (c .before .link-test .result) (c .if1 .taken))
 
 field-test-requires : tie.Need-field-test-requires
-field-test-requires c κs = search needs
+field-test-requires c κs = let low = link-low _ _ _ _ (sym (c .before .link-test .ensures) ∙ not-false _ (c .if1 .left)) in omega (arith, low)
 
 returns-2 : tie.Need-returns-2
 unfolding entryTest
 returns-2 c = rw (← c .before .before .before .link-test .ensures, ← c .before .field-test .ensures, not-false (c .before .before .before .link-test .result) (c .before .before .if1 .left), not-true (c .before .field-test .result) (c .if2 .taken))
 
 field-requires : tie.Need-field-requires
-field-requires c κs = search needs
+field-requires c κs = let low = link-low _ _ _ _ (sym (c .before .before .before .link-test .ensures) ∙ not-false _ (c .before .before .if1 .left)) in omega (arith, low)
 
 last-of-requires : tie.Need-last-of-requires
 last-of-requires c κs = search needs
 
 chain-test-requires : tie.Need-chain-test-requires
-chain-test-requires c κs = search needs
+chain-test-requires c κs = let low = link-low _ _ _ _ (sym (c .before .before .before .before .before .link-test .ensures) ∙ not-false _ (c .before .before .before .before .if1 .left)) in omega (arith, low)
 
 returns-3 : tie.Need-returns-3
 unfolding entryTest

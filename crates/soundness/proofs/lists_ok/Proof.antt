@@ -1,14 +1,14 @@
 use borrow.Author.Needs.{needs}
 use borrow.Author.Tests.{lt-ltb, le-ltb, not-true, not-false}
-use Rattle.check_model.specs.Walk.{listsWalk}
-use Rattle.words.proofs.value.Reads as get-reads
-use Rattle.check_stack.proofs.unused_ok.Reads as unused-ok-reads
-use Rattle.check_lists.proofs.buckets_ok.Reads as buckets-ok-reads
+use Rattle.check_model.specs.Walk.{rest, listsWalk}
 use Rattle.soundness.proofs.lists_ok.Statement.{statement}
 use Rattle.soundness.proofs.lists_ok.Tie as tie
 use Rattle.soundness.proofs.lists_ok.Reads as reads
 use Rattle.soundness.proofs.lists_ok.Lts as lts
+use Rattle.check_lists.proofs.buckets_ok.Reads as buckets-ok-reads
+use Rattle.check_stack.proofs.unused_ok.Reads as unused-ok-reads
 use Rattle.soundness.proofs.walk_ok.Reads as walk-ok-reads
+use Rattle.words.proofs.value.Reads as value-reads
 
 mul-at : tie.Need-mul-at
 mul-at c = search needs
@@ -18,6 +18,18 @@ add-at c = search needs
 
 add-at-2 : tie.Need-add-at-2
 add-at-2 c = search needs
+
+mul-x : tie.Need-mul-x
+mul-x c = search needs
+
+sub-x : tie.Need-sub-x
+sub-x c = search needs
+
+part-x-start : tie.Need-part-x-start
+part-x-start c = search needs
+
+part-x-end : tie.Need-part-x-end
+part-x-end c = search needs
 
 value-requires : tie.Need-value-requires
 value-requires c κs = search needs
@@ -37,7 +49,7 @@ walk-ok-requires c κs = search needs
 
 returns-2 : tie.Need-returns-2
 unfolding listsWalk
-returns-2 c = rw (← c .before .before .before .before .value .ensures, ← c .before .before .before .value2 .ensures, ← c .before .walk-ok .ensures, le-ltb _ _ (c .before .before .if1 .left), not-true (c .before .walk-ok .result) (c .if2 .taken))
+returns-2 c = rw (← rest _ _, ← c .before .before .before .before .value .ensures, ← c .before .before .before .value2 .ensures, ← c .before .walk-ok .ensures, le-ltb _ _ (c .before .before .if1 .left), not-true (c .before .walk-ok .result) (c .if2 .taken))
 
 value-requires-3 : tie.Need-value-requires-3
 value-requires-3 c κs = search needs
@@ -47,7 +59,7 @@ unused-ok-requires c κs = search needs
 
 returns-3 : tie.Need-returns-3
 unfolding listsWalk
-returns-3 c = rw (← c .before .before .before .before .before .before .before .value .ensures, ← c .before .before .before .before .before .before .value2 .ensures, ← c .before .before .before .before .walk-ok .ensures, ← c .before .before .value3 .ensures, ← c .before .unused-ok .ensures, le-ltb _ _ (c .before .before .before .before .before .if1 .left), not-false (c .before .before .before .before .walk-ok .result) (c .before .before .before .if2 .left), not-true (c .before .unused-ok .result) (c .if3 .taken))
+returns-3 c = rw (← rest _ _, ← c .before .before .before .before .before .before .before .value .ensures, ← c .before .before .before .before .before .before .value2 .ensures, ← c .before .before .before .before .walk-ok .ensures, ← c .before .before .value3 .ensures, ← c .before .unused-ok .ensures, le-ltb _ _ (c .before .before .before .before .before .if1 .left), not-false (c .before .before .before .before .walk-ok .result) (c .before .before .before .if2 .left), not-true (c .before .unused-ok .result) (c .if3 .taken))
 
 mul-buckets-ok : tie.Need-mul-buckets-ok
 mul-buckets-ok c = search needs
@@ -60,7 +72,7 @@ buckets-ok-requires c κs = search needs
 
 returns-4 : tie.Need-returns-4
 unfolding listsWalk
-returns-4 c = rw (← c .before .before .before .before .before .before .before .before .value .ensures, ← c .before .before .before .before .before .before .before .value2 .ensures, ← c .before .before .before .before .before .walk-ok .ensures, ← c .before .before .before .value3 .ensures, ← c .before .before .unused-ok .ensures, ← c .buckets-ok .ensures, le-ltb _ _ (c .before .before .before .before .before .before .if1 .left), not-false (c .before .before .before .before .before .walk-ok .result) (c .before .before .before .before .if2 .left), not-false (c .before .before .unused-ok .result) (c .before .if3 .left))
+returns-4 c = rw (← rest _ _, ← c .before .before .before .before .before .before .before .before .value .ensures, ← c .before .before .before .before .before .before .before .value2 .ensures, ← c .before .before .before .before .before .walk-ok .ensures, ← c .before .before .before .value3 .ensures, ← c .before .before .unused-ok .ensures, ← c .buckets-ok .ensures, le-ltb _ _ (c .before .before .before .before .before .before .if1 .left), not-false (c .before .before .before .before .before .walk-ok .result) (c .before .before .before .before .if2 .left), not-false (c .before .before .unused-ok .result) (c .before .if3 .left))
 
 pub lists-ok-spec : {M : Type 1} → statement M
 lists-ok-spec =
@@ -69,6 +81,10 @@ lists-ok-spec =
     mul-at
     add-at
     add-at-2
+    mul-x
+    sub-x
+    part-x-start
+    part-x-end
     value-requires
     value-requires-2
     returns

@@ -7,6 +7,8 @@ use Rattle.settings.specs.NumbersLaws.{legal-settings, old-fits}
 use Rattle.settings.specs.BucketLaws.{buckets-some, buckets-few}
 use Rattle.layout.specs.Sound.{settingsIn}
 use Rattle.check_model.specs.Tests.{soundTest}
+use Rattle.check_model.specs.Masks.{buckets-mask}
+use Rattle.check_model.specs.Nines.{kinds-long}
 use Rattle.check_model.specs.Walk.{lists-walk}
 use Rattle.words.proofs.value.Reads as get-reads
 use Rattle.settings.proofs.buckets.Reads as buckets-reads
@@ -84,7 +86,8 @@ lists-ok-requires c κs =
     let e = c .before .before .buckets .ensures in
     let k = buckets-some (c .before .before .before .before .before .before .before .before .before .before .before .value .result) in
     let h = buckets-few (c .before .before .before .before .before .before .before .before .before .before .before .value .result) (g .few-blocks) in
-    (g .few-blocks, old-fits _ g, g .few-chains, g .few-average, rw e k, rw e h)
+    let m = buckets-mask (c .before .before .before .before .before .before .before .before .before .before .before .value .result) (g .few-blocks) in
+    (g .few-blocks, old-fits _ g, g .few-chains, g .few-average, rw e k, rw e h, rw e m, kinds-long _ _ _ (sym (c .before .kinds-ok .ensures) ∙ not-false _ (c .if2 .left)))
 
 returns-3 : tie.Need-returns-3
 unfolding soundTest settingsIn

@@ -4,8 +4,8 @@ use borrow.Author.Tests.{not-true, not-false}
 use mathlib.Core.Path.{_≡_, refl, sym, _∙_}
 use Prim.Native.Nat.{_-_, _*_, _≤_}
 use native.Mathlib.Omega.{arith}
-use Rattle.check_model.specs.Tests.{fld}
-use Rattle.check_model.specs.Walk.{walkFrom, walkTest}
+use Rattle.check_model.specs.Tests.{entryWord}
+use Rattle.check_model.specs.Walk.{entry-low, walkFrom, walkTest}
 use Rattle.check_model.specs.LoopLaws.{turns-fail, turns-up, turns-end}
 use Rattle.soundness.proofs.walk_ok.Statement.{statement}
 use Rattle.soundness.proofs.walk_ok.Tie as tie
@@ -18,11 +18,11 @@ use Rattle.soundness.proofs.entry_ok.Reads as entry-ok-reads
 use Rattle.soundness.proofs.met_at.Reads as met-at-reads
 
 abbrev Inv-loop : tie.InvT-loop
-Inv-loop d at n m new mid cmax amax count head last₀ e₀ before₀ p₀ s₀ marks₀ young₀ old₀ last e before p s marks young old =
-    (walkFrom d (fld d at) n m new mid cmax amax (count - p) (e, before, p, s, marks, last, young, old) ≡ walkTest d (fld d at) n m new mid cmax amax count head) × (s ≤ 4294967296 * p) × (marks ≤ 4294967296 * p) × (p ≤ count)
+Inv-loop d x n m new mid cmax amax count head last₀ e₀ before₀ p₀ s₀ marks₀ young₀ old₀ last e before p s marks young old =
+    (walkFrom d (entryWord x) n m new mid cmax amax (count - p) (e, before, p, s, marks, last, young, old) ≡ walkTest d (entryWord x) n m new mid cmax amax count head) × (s ≤ 4294967296 * p) × (marks ≤ 4294967296 * p) × (p ≤ count)
 
 abbrev μ-loop : tie.MeasureT-loop
-μ-loop d at n m new mid cmax amax count head last₀ e₀ before₀ p₀ s₀ marks₀ young₀ old₀ last e before p s marks young old = count - p
+μ-loop d x n m new mid cmax amax count head last₀ e₀ before₀ p₀ s₀ marks₀ young₀ old₀ last e before p s marks young old = count - p
 
 loop-holds : tie.Need-loop-holds Inv-loop μ-loop
 unfolding walkTest
@@ -35,7 +35,7 @@ returns : tie.Need-returns Inv-loop μ-loop
 returns c = let l = c .before .before .before .before .loop in sym (turns-fail _ _ _ _ (l .e, l .before, l .p, l .s, l .marks, l .last, l .young, l .old) (omega (arith, c .before .before .before .loop-test .taken)) (sym (c .before .entry-ok .ensures) ∙ not-true _ (c .if1 .taken))) ∙ l .inv .0
 
 field-requires : tie.Need-field-requires Inv-loop μ-loop
-field-requires c κs = search needs
+field-requires c κs = let low = entry-low _ _ _ _ _ _ _ _ _ _ _ (sym (c .before .entry-ok .ensures) ∙ not-false _ (c .if1 .left)) in omega (arith, low)
 
 cast-s : tie.Need-cast-s Inv-loop μ-loop
 cast-s c = search needs
@@ -44,7 +44,7 @@ add-s : tie.Need-add-s Inv-loop μ-loop
 add-s c = search needs
 
 field-requires-2 : tie.Need-field-requires-2 Inv-loop μ-loop
-field-requires-2 c κs = search needs
+field-requires-2 c κs = let low = entry-low _ _ _ _ _ _ _ _ _ _ _ (sym (c .before .before .entry-ok .ensures) ∙ not-false _ (c .before .if1 .left)) in omega (arith, low)
 
 cast-marks : tie.Need-cast-marks Inv-loop μ-loop
 cast-marks c = search needs
@@ -62,7 +62,7 @@ met-at-requires-2 : tie.Need-met-at-requires-2 Inv-loop μ-loop
 met-at-requires-2 c κs = search needs
 
 field-requires-3 : tie.Need-field-requires-3 Inv-loop μ-loop
-field-requires-3 c κs = search needs
+field-requires-3 c κs = let low = entry-low _ _ _ _ _ _ _ _ _ _ _ (sym (c .before .before .before .before .before .before .before .entry-ok .ensures) ∙ not-false _ (c .before .before .before .before .before .before .if1 .left)) in omega (arith, low)
 
 add-p : tie.Need-add-p Inv-loop μ-loop
 add-p c = search needs
