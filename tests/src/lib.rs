@@ -53,7 +53,12 @@ pub struct Settings {
 pub const BELT: Settings = Settings { n: 4, nnew: 1, nold: 2, cmax: 3, amax: 100, b: 8, m: 64 };
 
 /// The library, to be run beside the plain stack.
-pub const LIBRARY: reference::beside::Tested = reference::beside::Tested { fresh, batch, sound };
+pub const LIBRARY: reference::beside::Tested = reference::beside::Tested {
+    fresh,
+    batch,
+    sound,
+    look: |dir, data, store, block, out| look_into(dir, data, store, block, out),
+};
 
 /// Writes a fresh directory over `dir`, or returns 1 to 5.
 pub fn fresh(s: Settings, dir: &mut [u32]) -> u32 {

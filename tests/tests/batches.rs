@@ -51,7 +51,7 @@ impl Corners {
 }
 
 fn print(histories: usize, seen: &Seen) {
-    println!("{histories} histories; calls that returned 0 to 11: {:?}", seen.numbers);
+    println!("{histories} histories; calls that returned 0 to 11: {:?}; {} looks", seen.numbers, seen.looks);
     println!(
         "  answers 1 to 6: {:?}, {} halved, {} victims written out, up to {} chains",
         &seen.answers[1..],

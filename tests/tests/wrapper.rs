@@ -6,7 +6,7 @@ use cache_tests::reference::settings::{directory_length, named, Profile, PROFILE
 use cache_tests::Settings;
 use fbr::{Answer, Memory, Refusal};
 
-const WRAPPER: Tested = Tested { fresh, batch, sound: fbr::sound };
+const WRAPPER: Tested = Tested { fresh, batch, sound: fbr::sound, look };
 
 fn wrapped(s: Settings) -> fbr::Settings {
     fbr::Settings { n: s.n, nnew: s.nnew, nold: s.nold, cmax: s.cmax, amax: s.amax, b: s.b, m: s.m }
@@ -22,6 +22,10 @@ fn batch(
     outgoing: &mut [u8],
 ) -> u32 {
     number(Memory { directory, data, store }.batch(work, incoming, answers, outgoing))
+}
+
+fn look(directory: &mut [u32], data: &mut [u8], store: &mut [u8], block: u32, out: &mut [u8]) -> usize {
+    Memory { directory, data, store }.look_into(block, out).unwrap_or(0)
 }
 
 #[test]

@@ -1,6 +1,7 @@
 -- A look by the steps of the code: no part where its number is not 0; else data and store are long enough for the block's part.
 use Prim.Native.Nat.{ℕ, _+_, _-_, _*_, _≤_}
 use native.Mathlib.Omega.{arith}
+use native.Mathlib.Nat.{zero-add}
 use mathlib.Core.Path.{_≡_, sym, _∙_}
 use mathlib.Core.Bool.{Bool, true, false, _||_, not}
 use mathlib.Core.List.{List, [], _∷_}
@@ -18,7 +19,7 @@ use Rattle.layout.specs.SoundLaws.{sound-residents}
 use Rattle.layout.specs.declared.Found.{Found}
 use Rattle.layout.specs.declared.Found.the-variants.{At, Absent}
 use Rattle.promises.specs.DirectoryPromises.{foundResident}
-use Rattle.promises.specs.Looks.{lookNumber, lookBytes}
+use Rattle.promises.specs.Looks.{placeAt, lookNumber, lookBytes, lookPlace}
 use Rattle.cache_steps.specs.Carried.{Ready, memory}
 use Rattle.cache_steps.specs.MovedLaws.{entry-room}
 use Rattle.cache_steps.specs.Places.{store-room}
@@ -37,9 +38,13 @@ unfolding lookup
 found-fit w ok block x h = all-found (Fit (settingsIn w)) (residentsIn w) (position block (residentsIn w)) x (sound-residents w ok .fit) h
 
 module _ (w bytes store : List ℕ) (block n : ℕ) (number : n ≡ lookNumber w bytes store block) where
-  pub no-part : (n ≡ 0 → ⊥) → [] ≡ lookBytes w bytes store block
-  unfolding lookBytes
-  no-part h = rw (← number, ne-eqb n 0 h)
+  -- the part by its bytes and its place
+  abbrev Held : (inData inStore : ℕ × ℕ) → List ℕ → ℕ × ℕ → Type 0
+  Held inData inStore part place = (part ≡ lookBytes w bytes store block) × (place ≡ lookPlace w bytes store block inData inStore)
+
+  pub no-part : (inData inStore : ℕ × ℕ) → (n ≡ 0 → ⊥) → Held inData inStore [] (inData .0, 0 + inData .1)
+  unfolding lookBytes lookPlace
+  no-part inData inStore h = (rw (← number, ne-eqb n 0 h), rw (← number, ne-eqb n 0 h, zero-add))
 
   module _ (zero : n ≡ 0) where
     tests : T (sound w) × T (not (ltb (length bytes) (settingsIn w .n * settingsIn w .b))) × T (not (ltb (length store) (settingsIn w .m * settingsIn w .b))) × T (not (leb (settingsIn w .m) block))
@@ -60,9 +65,9 @@ module _ (w bytes store : List ℕ) (block n : ℕ) (number : n ≡ lookNumber w
 
       -- with what the lookup yields
       module _ {f : Found} (found : lookup block (residentsIn w) ≡ foundResident w f) where
-        pub of-store : f ≡ Absent → {part : List ℕ} → part ≡ blockAt (s .b) block store → part ≡ lookBytes w bytes store block
-        unfolding lookBytes
-        of-store absent h = rw (← number, eq-eqb n 0 zero, found, absent) (rw e at h)
+        pub of-store : (inData inStore : ℕ × ℕ) → f ≡ Absent → {part : List ℕ} {place : ℕ × ℕ} → (part ≡ blockAt (s .b) block store) × (place ≡ placeAt (s .b) block inStore) → Held inData inStore part place
+        unfolding lookBytes lookPlace
+        of-store inData inStore absent h = (rw (← number, eq-eqb n 0 zero, found, absent) (rw e at (h .0)), rw (← number, eq-eqb n 0 zero, found, absent) (rw e at (h .1)))
 
         module _ {entry : ℕ} (there : f ≡ At entry) where
           fit : Fit (settingsIn w) (residentAt w entry)
@@ -76,6 +81,6 @@ module _ (w bytes store : List ℕ) (block n : ℕ) (number : n ≡ lookNumber w
           unfolding residentAt
           data-holds = rw e (entry-room (settingsIn w) bytes (ready .bytes-long) entry (fit .least) (fit .most))
 
-          pub of-data : {part : List ℕ} → part ≡ blockAt (s .b) (entry - 1) bytes → part ≡ lookBytes w bytes store block
-          unfolding lookBytes residentAt
-          of-data h = rw (← number, eq-eqb n 0 zero, found, there) (rw e at h)
+          pub of-data : (inData inStore : ℕ × ℕ) {part : List ℕ} {place : ℕ × ℕ} → (part ≡ blockAt (s .b) (entry - 1) bytes) × (place ≡ placeAt (s .b) (entry - 1) inData) → Held inData inStore part place
+          unfolding lookBytes lookPlace residentAt
+          of-data inData inStore h = (rw (← number, eq-eqb n 0 zero, found, there) (rw e at (h .0)), rw (← number, eq-eqb n 0 zero, found, there) (rw e at (h .1)))

@@ -1,13 +1,12 @@
 -- What a look promises (document 01, "Looking at a block"): the number of its companion, and the part of data or of store that holds
--- the block's present bytes. Nothing is written. Statements only.
-use Prim.Native.Nat.{ℕ, _-_, _*_}
+-- the block's present bytes, by its bytes and by its place. Nothing is written. Statements only.
+use Prim.Native.Nat.{ℕ, _+_, _-_, _*_}
 use mathlib.Core.Bool.{_||_, not}
 use mathlib.Core.Option.{Option, none, some}
 use mathlib.Core.List.{List, [], _∷_}
 use lib.ListN.{length}
 use lib.Dec.{leb, ltb, eqb}
 use Rattle.basics.specs.Basics.{if_then_else_, first, blockAt}
-use Rattle.settings.specs.declared.Settings.{Settings}
 use Rattle.stack.specs.Recency.{Resident, lookup}
 use Rattle.layout.specs.Sound.{settingsIn, sound, residentsIn}
 
@@ -21,13 +20,25 @@ lookNumber words bytes store block =
     ∷ (leb (s .m) block, 9)
     ∷ [])
 
--- the resident's bytes if there is one, else the store's
-abbrev pub presentBytes : Settings → List ℕ → List ℕ → ℕ → Option (Resident ℕ) → List ℕ
-presentBytes s bytes store block none = blockAt (s .b) block store
-presentBytes s bytes store block (some x) = blockAt (s .b) (x .held - 1) bytes
+-- the part that is block i of a buffer begins there, given where the buffer does: a piece of memory, and a byte of it
+abbrev pub placeAt : ℕ → ℕ → ℕ × ℕ → ℕ × ℕ
+placeAt size i start = (start .0, i * size + start .1)
 
+-- the resident's part of data if there is one, else the block's part of the store
+abbrev pub present : {A B : Type 0} → (ℕ → A → B) → A → A → ℕ → Option (Resident ℕ) → B
+present part inData inStore block none = part block inStore
+present part inData inStore block (some x) = part (x .held - 1) inData
+
+-- the bytes of the part; none where the number is not 0
 unfoldable pub lookBytes : List ℕ → List ℕ → List ℕ → ℕ → List ℕ
 unfolding lookNumber settingsIn lookup
 lookBytes words bytes store block =
-    let part = presentBytes (settingsIn words) bytes store block (lookup block (residentsIn words)) in
+    let part = present (blockAt (settingsIn words .b)) bytes store block (lookup block (residentsIn words)) in
     if eqb (lookNumber words bytes store block) 0 then part else []
+
+-- where the part begins, given where data and store do; the empty part is at the front of data
+unfoldable pub lookPlace : List ℕ → List ℕ → List ℕ → ℕ → ℕ × ℕ → ℕ × ℕ → ℕ × ℕ
+unfolding lookNumber settingsIn lookup
+lookPlace words bytes store block inData inStore =
+    let place = present (placeAt (settingsIn words .b)) inData inStore block (lookup block (residentsIn words)) in
+    if eqb (lookNumber words bytes store block) 0 then place else inData

@@ -8,6 +8,11 @@ use crate::Settings;
 use std::hint::black_box;
 
 pub type Batch = fn(&mut [u32], &mut [u8], &mut [u8], &[u32], &[u8], &mut [u32], &mut [u8]) -> u32;
+/// A look at a block over directory, data and store: its present bytes to the front of a buffer; how many they are.
+pub type Look = fn(&mut [u32], &mut [u8], &mut [u8], u32, &mut [u8]) -> usize;
+
+/// Blocks × cache blocks up to which every block is looked at; a look costs a check of the directory.
+const MOST_LOOKED: u64 = 1 << 26;
 
 /// The functions under test.
 #[derive(Clone, Copy)]
@@ -15,6 +20,7 @@ pub struct Tested {
     pub fresh: fn(Settings, &mut [u32]) -> u32,
     pub batch: Batch,
     pub sound: fn(&[u32]) -> bool,
+    pub look: Look,
 }
 
 /// What a batch brings, with the earlier contents of its buffers, and how far data and store are lent.
@@ -36,6 +42,7 @@ pub struct Seen {
     pub written_out: u64,
     pub most_chains: u32,
     pub highest_victim: u32,
+    pub looks: u64,
 }
 
 impl Seen {
@@ -46,6 +53,7 @@ impl Seen {
         self.written_out += other.written_out;
         self.most_chains = self.most_chains.max(other.most_chains);
         self.highest_victim = self.highest_victim.max(other.highest_victim);
+        self.looks += other.looks;
     }
 
     fn answered(&mut self, w: u32) {
@@ -165,6 +173,25 @@ impl Beside {
         answers.iter().for_each(|&w| self.seen.answered(w));
         self.last_answers = answers;
         0
+    }
+
+    /// A look at every block gives the plain stack's present bytes and changes nothing. Of a store too large for that, at
+    /// every resident and at each 64th block.
+    pub fn look_at_every_block(&mut self) {
+        let before = (self.dir.clone(), self.data.clone(), self.store.clone());
+        let Settings { n, b, m, .. } = self.stack.settings;
+        let mut present: Vec<&[u8]> = self.stack.store.chunks_exact(b as usize).take(m as usize).collect();
+        self.stack.residents.iter().for_each(|held| present[held.block as usize] = &held.bytes);
+        let every = u64::from(n) * u64::from(m) <= MOST_LOOKED;
+        let resident = |block: u32| self.stack.residents.iter().any(|held| held.block == block);
+        let mut out = vec![0; b as usize];
+        for block in (0..m).filter(|&block| every || block % 64 == 0 || resident(block)) {
+            let length = (self.tested.look)(&mut self.dir, &mut self.data, &mut self.store, block, &mut out);
+            assert_eq!(length, out.len(), "a look at block {block}: {:?}", self.stack.settings);
+            assert!(out == present[block as usize], "the present bytes of block {block}: {:?}", self.stack.settings);
+            self.seen.looks += 1;
+        }
+        assert!(self.dir == before.0 && self.data == before.1 && self.store == before.2, "a look changed something");
     }
 
     /// Residents along the stack links with their bytes from the data buffer, store, totals and soundness.

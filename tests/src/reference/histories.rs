@@ -179,7 +179,7 @@ pub fn unsound(rng: &mut Rng, dir: &[u32], s: Settings) -> Vec<u32> {
     }
 }
 
-/// Goes on with `calls` batches of at most `most` words.
+/// Goes on with `calls` batches of at most `most` words, then looks at every block.
 pub fn go_on(rng: &mut Rng, beside: &mut Beside, calls: usize, most: u32) {
     for _ in 0..calls {
         let s = beside.stack.settings;
@@ -202,4 +202,5 @@ pub fn go_on(rng: &mut Rng, beside: &mut Beside, calls: usize, most: u32) {
         }
         beside.call(&call);
     }
+    beside.look_at_every_block();
 }

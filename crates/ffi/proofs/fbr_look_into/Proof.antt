@@ -12,7 +12,7 @@ same-length : tie.Need-same-length
 same-length c = search needs
 
 returns : tie.Need-returns
-returns c = let k = c .before .before in rw (← k .before .before .look .ensures) (k .copy-into .ensures)
+returns c = let k = c .before .before in rw (← k .before .before .look .ensures .0) (k .copy-into .ensures)
 
 pub fbr-look-into-spec : {M : Type 1} → statement M
 fbr-look-into-spec = tie.close (tie.spec look-requires copy-into-requires same-length returns)

@@ -1,3 +1,4 @@
+use mathlib.Core.Path.{refl}
 use Rattle.blocks.proofs.Laws.{block-is}
 use borrow.Author.Needs.{needs}
 use Rattle.looks.proofs.block_part.Statement.{statement}
@@ -19,7 +20,7 @@ part-result-end : tie.Need-part-result-end
 part-result-end c = search needs
 
 returns : tie.Need-returns
-returns c = let a = c .before .args in block-is (a .bytes .now) (a .i) (a .size)
+returns c = let a = c .before .args in (block-is (a .bytes .now) (a .i) (a .size), refl)
 
 pub block-part-spec : {M : Type 1} → statement M
 block-part-spec =
