@@ -1,4 +1,4 @@
-//! The soundness check beside two other judges: sound directories that no history need reach, and damaged ones.
+//! The soundness check beside three other judges: sound directories that no history need reach, and damaged ones.
 mod damage;
 
 use cache_tests::reference::builder::Plan;

@@ -1,5 +1,9 @@
 use crate::refusal::outcome;
+use crate::words::MAX_VALUE;
 use crate::{sys, Refusal};
+
+/// The largest block size.
+const MAX_B: u32 = 4_096;
 
 /// The lent memory that holds the whole state of a cache.
 ///
@@ -103,7 +107,9 @@ impl Memory<'_> {
     ///
     /// 6, 7 or 9.
     pub fn look(&self, block: u32) -> Result<Vec<u8>, Refusal> {
-        let mut out = vec![0; self.look_into(block, &mut [])?];
+        // word 5 of a sound directory is B, so the bytes fit and one call is enough
+        let b = self.directory.get(5).map_or(0, |word| (word & MAX_VALUE).min(MAX_B));
+        let mut out = vec![0; b as usize];
         self.look_into(block, &mut out)?;
         Ok(out)
     }

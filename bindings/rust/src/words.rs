@@ -1,5 +1,5 @@
 /// The largest value of a word: 28 bits.
-const MAX_VALUE: u32 = (1 << 28) - 1;
+pub(crate) const MAX_VALUE: u32 = (1 << 28) - 1;
 
 /// One work word: the kind in the top 4 bits, the value in the low 28.
 #[derive(Clone, Copy, Debug, PartialEq, Eq, Hash)]

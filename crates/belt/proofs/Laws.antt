@@ -2,12 +2,11 @@
 use Prim.Native.Nat.{ℕ, _+_, _*_, _/_, _%_, _≤_, _<_, min}
 use native.Mathlib.Omega.{arith}
 use mathlib.Core.Path.{_≡_, refl, sym, ap, subst, _∙_}
-use mathlib.Core.List.{List, _++_}
-use lib.ListN.{length, getD, take, drop, set, length-set}
+use mathlib.Core.List.{List, [], _++_, append-nil}
+use lib.ListN.{length, getD, take, drop, set, drop-of-length-le}
 use lib.Seq.{take-at}
+use Rattle.basics.specs.WriteLaws.{write-step, write-end, write-length}
 use Rattle.promises.specs.Promises.{over}
-use Rattle.blocks.proofs.Laws.{copied-more, copied-all}
-use Rattle.fresh.proofs.Laws.{write-step, write-end, write-length}
 use Rattle.belt.specs.Belt.{wordsOf, inputWords, incomingBytes}
 use Rattle.belt.specs.declared.Outcome.{Outcome}
 use Rattle.belt.specs.Cycles.{Cycled}
@@ -60,27 +59,35 @@ module _ (input before : List ℕ) (n : ℕ) (work : List ℕ) (i : ℕ) (d : De
 
 -- ---- bytes of the writes
 
-pub record Marking (incoming : List ℕ) (i : ℕ) : Type 0 where
+pub record Marking (before incoming : List ℕ) (i : ℕ) : Type 0 where
   pub inside : i ≤ 8192
-  pub long : length incoming ≡ 8192
-  pub marked : take i incoming ≡ take i incomingBytes
+  pub long : length before ≡ 8192
+  pub written : incoming ≡ take i incomingBytes ++ drop i before
 
-pub marking-step : (incoming : List ℕ) (i x : ℕ) → Marking incoming i → i < length incoming → x ≡ (1 + i / 8) % 256 → Marking (set incoming i x) (i + 1)
-marking-step incoming i x m h e =
-    let l = m .long in
-    let k = length-incoming in
-    let f : x ≡ getD incomingBytes i 0 = e ∙ sym (incoming-at i (omega arith)) in
-    record {
-      inside = omega arith;
-      long = length-set incoming i x ∙ m .long;
-      marked = rw f (copied-more incomingBytes incoming i (omega arith) (omega arith) (m .marked));
-    }
+module _ (before incoming : List ℕ) (i : ℕ) (m : Marking before incoming i) where
+  pub marking-length : length incoming ≡ 8192
+  marking-length =
+      let a = m .inside in
+      let l = m .long in
+      let k = length-incoming in
+      ap length (m .written) ∙ write-length incomingBytes before i (omega arith) (omega arith) ∙ l
 
-pub marking-end : (incoming : List ℕ) (i : ℕ) → Marking incoming i → length incoming ≤ i → incoming ≡ incomingBytes
-marking-end incoming i m h =
-    let l = m .long in
-    let k = length-incoming in
-    copied-all incomingBytes incoming i (omega arith) (omega arith) (m .marked)
+  pub marking-step : (x : ℕ) → i < length incoming → x ≡ (1 + i / 8) % 256 → Marking before (set incoming i x) (i + 1)
+  marking-step x h e =
+      let l = m .long in
+      let n = marking-length in
+      let k = length-incoming in
+      let f : x ≡ getD incomingBytes i 0 = e ∙ sym (incoming-at i (omega arith)) in
+      record { inside = omega arith; long = l; written = rw (m .written, f) (write-step incomingBytes before i (omega arith) (omega arith)) }
+
+  pub marking-end : length incoming ≤ i → incoming ≡ incomingBytes
+  marking-end h =
+      let a = m .inside in
+      let l = m .long in
+      let n = marking-length in
+      let k = length-incoming in
+      let none : drop (length incomingBytes) before ≡ [] = drop-of-length-le before {i = length incomingBytes} (omega arith) in
+      m .written ∙ write-end incomingBytes before i (omega arith) ∙ rw none (append-nil incomingBytes)
 
 -- ---- the words decoded
 

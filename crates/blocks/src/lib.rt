@@ -3,18 +3,6 @@ ghost use Prim.Native.Nat.{_+_, _*_, _≤_};
 ghost use lib.ListN.{length};
 ghost use Rattle.basics.specs.Basics.{blockAt, putBlock};
 
-// All bytes of a slice go to another one of the same length.
-pub fn copy(from: &[u8], to: &mut [u8])
-    requires { ⌜ length (now from) ≡ length (now to) ⌝ }
-    ensures { λ _. ⌜ now (to .exit) ≡ now (from .entry) ⌝ }
-{
-    let mut i = 0;
-    while i < from.len() {
-        to[i] = from[i];
-        i += 1;
-    }
-}
-
 // The bytes `from` become a block of `to`; its other bytes stay.
 pub fn put(block: u32, size: u32, from: &[u8], to: &mut [u8])
     requires { ⌜ (length (now from) ≡ size) × (block * size + size ≤ length (now to)) ⌝ }
@@ -22,7 +10,7 @@ pub fn put(block: u32, size: u32, from: &[u8], to: &mut [u8])
 {
     let at = (block as usize) * (size as usize);
     let end = at + size as usize;
-    copy(from, &mut to[at..end]);
+    bytes::copy(from, &mut to[at..end]);
 }
 
 // Block i of `from` becomes block j of `to`.

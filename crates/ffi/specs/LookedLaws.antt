@@ -1,13 +1,11 @@
--- A front of a list, lent and come back.
-use Prim.Native.Nat.{ℕ, _-_, _≤_}
-use native.Mathlib.Omega.{arith}
+-- A part copied to the front of a buffer.
+use Prim.Native.Nat.{ℕ, _≤_}
 use mathlib.Core.Path.{_≡_}
 use mathlib.Core.List.{List, _++_}
-use lib.ListN.{length, drop}
+use lib.ListN.{length, take, drop}
+use lib.Seq.{take-length}
 use borrow.Author.Tests.{le-leb}
 use Rattle.ffi.specs.Looked.{lookedInto}
 
-pub front-copied : (part front out : List ℕ) → front ≡ part → length part ≤ length out → front ++ drop (length part - 0) out ≡ lookedInto part out
-front-copied part front out e h =
-    let q : length part - 0 ≡ length part = omega arith in
-    rw (le-leb _ _ h, q, e)
+pub front-copied : (part out after : List ℕ) → after ≡ take (length part) part ++ drop (length part) out → length part ≤ length out → after ≡ lookedInto part out
+front-copied part out after e h = rw (le-leb _ _ h) (rw (take-length part) at e)

@@ -10,13 +10,13 @@ ghost use Rattle.cache_steps.specs.FlushStep.{Flushing};
 ghost use Rattle.flushing.specs.Standing.{Standing, EntryReady};
 
 // The resident of entry e: its bytes go to the store and the mark is cleared where it is modified; how many blocks went out.
-fn flush_entry(dir: &mut [u32], data: &[u8], store: &mut [u8], size: u32, e: u32) -> u32
-    requires { ⌜ EntryReady (memory (now dir) (now «data») (now store)) size e ⌝ }
-    ensures { λ r. ⌜ ((start : Memory) (p n : ℕ) → Ready start → Flushing start p (memory (now (dir .entry)) (now («data» .entry)) (now (store .entry))) n → Standing (now (dir .entry)) p e → Flushing start (p + 1) (memory (now (dir .exit)) (now («data» .entry)) (now (store .exit))) (n + r)) × (r ≤ 1) ⌝ }
+fn flush_entry(dir: &mut [u32], bytes: &[u8], store: &mut [u8], size: u32, e: u32) -> u32
+    requires { ⌜ EntryReady (memory (now dir) (now bytes) (now store)) size e ⌝ }
+    ensures { λ r. ⌜ ((start : Memory) (p n : ℕ) → Ready start → Flushing start p (memory (now (dir .entry)) (now (bytes .entry)) (now (store .entry))) n → Standing (now (dir .entry)) p e → Flushing start (p + 1) (memory (now (dir .exit)) (now (bytes .entry)) (now (store .exit))) (n + r)) × (r ≤ 1) ⌝ }
 {
     if directory::is_modified(dir, e) {
         let block = directory::block_of(dir, e);
-        blocks::move_block(data, e - 1, store, block, size);
+        blocks::move_block(bytes, e - 1, store, block, size);
         directory::clean(dir, e);
         return 1;
     }
@@ -24,9 +24,9 @@ fn flush_entry(dir: &mut [u32], data: &[u8], store: &mut [u8], size: u32, e: u32
 }
 
 // Every resident from the head of the stack to the tail; how many were written out.
-pub fn flush(dir: &mut [u32], data: &[u8], store: &mut [u8], size: u32) -> u32
-    requires { ⌜ Ready (memory (now dir) (now «data») (now store)) × (size ≡ settingsIn (now dir) .b) ⌝ }
-    ensures { λ r. ⌜ ((incoming : List ℕ) → Carried (memory (now (dir .entry)) (now («data» .entry)) (now (store .entry))) flushWord incoming (memory (now (dir .exit)) (now («data» .entry)) (now (store .exit))) (flushed r) []) × (r ≤ 4096) ⌝ }
+pub fn flush(dir: &mut [u32], bytes: &[u8], store: &mut [u8], size: u32) -> u32
+    requires { ⌜ Ready (memory (now dir) (now bytes) (now store)) × (size ≡ settingsIn (now dir) .b) ⌝ }
+    ensures { λ r. ⌜ ((incoming : List ℕ) → Carried (memory (now (dir .entry)) (now (bytes .entry)) (now (store .entry))) flushWord incoming (memory (now (dir .exit)) (now (bytes .entry)) (now (store .exit))) (flushed r) []) × (r ≤ 4096) ⌝ }
 {
     let count = directory::residents(dir);
     let mut e = directory::first(dir);
@@ -34,7 +34,7 @@ pub fn flush(dir: &mut [u32], data: &[u8], store: &mut [u8], size: u32) -> u32
     let mut p = 0;
     while p < count {
         let behind = directory::next(dir, e);
-        written += flush_entry(dir, data, store, size, e);
+        written += flush_entry(dir, bytes, store, size, e);
         e = behind;
         p += 1;
     }

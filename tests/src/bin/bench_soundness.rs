@@ -1,8 +1,8 @@
-//! Microseconds of one soundness check: the library beside plain Rust, on the same directories in the same process.
+//! Microseconds of one soundness check: the library beside C and plain Rust, on the same directories in the same process.
 //! Run with `cargo run --release --bin bench_soundness`.
 use cache_tests::reference::rng::Rng;
 use cache_tests::reference::settings::{named, Profile, MAX_M};
-use cache_tests::reference::{fast_judge, samples};
+use cache_tests::reference::{c_judge, fast_judge, samples};
 use cache_tests::Settings;
 use std::hint::black_box;
 use std::time::Instant;
@@ -35,20 +35,26 @@ fn row(rng: &mut Rng, n: u32, name: &str, blocks: Blocks) {
     };
     let directories: Vec<Vec<u32>> = (0..DIRECTORIES).map(|_| directory()).collect();
     let times = ENTRIES_A_ROUND / (n as usize * DIRECTORIES);
-    let (mut library, mut plain) = (f64::MAX, f64::MAX);
-    // in turn, so that both meet the same machine
+    let checks = [cache_tests::sound, c_judge::sound, fast_judge::sound];
+    let mut best = [f64::MAX; 3];
+    // in turn, so that all meet the same machine
     for _ in 0..ROUNDS {
-        library = library.min(round(&directories, times, cache_tests::sound));
-        plain = plain.min(round(&directories, times, fast_judge::sound));
+        for (best, check) in best.iter_mut().zip(checks) {
+            *best = best.min(round(&directories, times, check));
+        }
     }
-    let length = directories[0].len();
-    println!("{n:>6} {length:>8} {name:>10} {library:>12.2} {plain:>12.2} {:>8.2}", library / plain);
+    let [library, c, plain] = best;
+    let (length, to_c, to_plain) = (directories[0].len(), library / c, library / plain);
+    println!("{n:>6} {length:>8} {name:>10} {library:>10.2} {c:>10.2} {plain:>10.2} {to_c:>8.2} {to_plain:>8.2}");
 }
 
 fn main() {
     let mut rng = Rng::announced("bench_soundness", 41);
     println!("full directories, shuffled; best of {ROUNDS} rounds; microseconds of one check");
-    println!("{:>6} {:>8} {:>10} {:>12} {:>12} {:>8}", "N", "words", "blocks", "library", "plain Rust", "ratio");
+    println!(
+        "{:>6} {:>8} {:>10} {:>10} {:>10} {:>10} {:>8} {:>8}",
+        "N", "words", "blocks", "library", "C", "plain Rust", "to C", "to Rust"
+    );
     for n in SIZES {
         row(&mut rng, n, "scattered", samples::scattered_blocks);
     }

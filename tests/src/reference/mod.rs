@@ -1,6 +1,7 @@
 //! The cache and its directory once more, in plain Rust: slow where that is plainer, and never shared with the library.
 pub mod beside;
 pub mod builder;
+pub mod c_judge;
 pub mod directory;
 pub mod fast_cache;
 pub mod fast_judge;

@@ -1,5 +1,5 @@
-//! Judges directories three times over and counts the verdicts of each region.
-use cache_tests::reference::{fast_judge, judge};
+//! Judges directories four times over and counts the verdicts of each region.
+use cache_tests::reference::{c_judge, fast_judge, judge};
 use std::collections::BTreeMap;
 
 #[derive(Default)]
@@ -9,13 +9,13 @@ pub struct Tally {
 }
 
 impl Tally {
-    /// The verdict, if all three agree on it.
+    /// The verdict, if all four agree on it.
     pub fn judge(&mut self, region: &str, words: &[u32]) -> bool {
         let verdict = judge::sound(words);
-        let (library, fast) = (cache_tests::sound(words), fast_judge::sound(words));
-        if (library, fast) != (verdict, verdict) {
+        let (library, fast, c) = (cache_tests::sound(words), fast_judge::sound(words), c_judge::sound(words));
+        if [library, fast, c] != [verdict; 3] {
             let shown = &words[..words.len().min(600)];
-            panic!("{region}: judge {verdict}, fast judge {fast}, library {library}; words {shown:#x?}");
+            panic!("{region}: judge {verdict}, fast judge {fast}, C {c}, library {library}; words {shown:#x?}");
         }
         self.count(region, verdict);
         verdict

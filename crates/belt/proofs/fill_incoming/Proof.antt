@@ -2,7 +2,7 @@ use Prim.Native.Nat.{_-_}
 use mathlib.Core.Path.{refl, sym, _∙_}
 use native.Mathlib.Omega.{arith}
 use borrow.Author.Needs.{needs}
-use Rattle.belt.proofs.Laws.{Marking, marking-step, marking-end}
+use Rattle.belt.proofs.Laws.{Marking, marking-length, marking-step, marking-end}
 use Rattle.belt.proofs.fill_incoming.Statement.{statement}
 use Rattle.belt.proofs.fill_incoming.Tie as tie
 use Rattle.belt.proofs.fill_incoming.Reads as reads
@@ -10,13 +10,13 @@ use Rattle.belt.proofs.fill_incoming.Lts as lts
 use Rattle.belt.proofs.mark.Reads as mark-reads
 
 abbrev Inv-loop : tie.InvT-loop
-Inv-loop incoming₀ i₀ incoming i = Marking incoming i
+Inv-loop incoming₀ i₀ incoming i = Marking incoming₀ incoming i
 
 abbrev μ-loop : tie.MeasureT-loop
 μ-loop incoming₀ i₀ incoming i = 8192 - i
 
 loop-holds : tie.Need-loop-holds Inv-loop μ-loop
-loop-holds c = record { inside = omega arith; long = c .before .pre; marked = refl }
+loop-holds c = record { inside = omega arith; long = c .before .pre; written = refl }
 
 mark-requires : tie.Need-mark-requires Inv-loop μ-loop
 mark-requires c κs = search needs
@@ -28,16 +28,16 @@ add-i : tie.Need-add-i Inv-loop μ-loop
 add-i c = search needs
 
 loop-less : tie.Need-loop-less Inv-loop μ-loop
-loop-less c = let h = c .before .loop-test .taken in let l = c .before .before .loop .inv .long in omega arith
+loop-less c = let h = c .before .loop-test .taken in let l = marking-length _ _ _ (c .before .before .loop .inv) in omega arith
 
 loop-again : tie.Need-loop-again Inv-loop μ-loop
-loop-again c = marking-step _ _ _ (c .before .before .loop .inv) (c .before .loop-test .taken) (c .mark .ensures)
+loop-again c = marking-step _ _ _ (c .before .before .loop .inv) _ (c .before .loop-test .taken) (c .mark .ensures)
 
 same-length : tie.Need-same-length Inv-loop μ-loop
-same-length c = c .before .loop .inv .long ∙ sym (c .before .before .before .pre)
+same-length c = marking-length _ _ _ (c .before .loop .inv) ∙ sym (c .before .before .before .pre)
 
 returns : tie.Need-returns Inv-loop μ-loop
-returns c = marking-end _ _ (c .before .loop .inv) (c .loop-test .left)
+returns c = marking-end _ _ _ (c .before .loop .inv) (c .loop-test .left)
 
 pub fill-incoming-spec : {M : Type 1} → statement M
 fill-incoming-spec =

@@ -4,15 +4,9 @@ use Rattle.ffi.specs.LookedLaws.{front-copied}
 use borrow.Author.Needs.{needs}
 use Rattle.ffi.proofs.copy_into.Statement.{statement}
 use Rattle.ffi.proofs.copy_into.Tie as tie
-
-sub-copy : tie.Need-sub-copy
-sub-copy c = search needs
-
-part-copy-start : tie.Need-part-copy-start
-part-copy-start c = search needs
-
-part-copy-end : tie.Need-part-copy-end
-part-copy-end c = search needs
+use Rattle.ffi.proofs.copy_into.Reads as reads
+use Rattle.ffi.proofs.copy_into.Lts as lts
+use Rattle.bytes.proofs.copy.Reads as copy-reads
 
 copy-requires : tie.Need-copy-requires
 copy-requires c κs = search needs
@@ -23,14 +17,11 @@ same-length c = search needs
 returns : tie.Need-returns
 returns c =
     let k = c .before .before in
-    let t = k .before .before in
-    let a = t .before .before .before .args in
-    (refl, front-copied (a .part .now) _ (a .out .now) (k .copy .ensures) (t .if1 .taken))
+    let a = k .before .before .before .before .before .args in
+    (k .copy .ensures .0, front-copied (a .part .now) (a .out .now) (k .copy .last .1 .0) (k .copy .ensures .1) (k .before .before .if1 .taken))
 
 returns-2 : tie.Need-returns-2
 returns-2 c = (refl, rw (lt-leb _ _ (c .if1 .left)))
 
 pub copy-into-spec : {M : Type 1} → statement M
-copy-into-spec =
-    tie.close
-    (tie.spec sub-copy part-copy-start part-copy-end copy-requires same-length returns returns-2)
+copy-into-spec = tie.close (tie.spec copy-requires same-length returns returns-2)

@@ -18,10 +18,10 @@ use Rattle.directory.proofs.residents.Reads as residents-reads
 use Rattle.flushing.proofs.flush_entry.Reads as flush-entry-reads
 
 abbrev Inv-loop : tie.InvT-loop
-Inv-loop dir₀ «data» store₀ size count e₀ written₀ p₀ dir store e written p = Flushing (memory dir₀ «data» store₀) p (memory dir «data» store) written × (e ≡ entryAt (residentsIn dir₀) p) × (p ≤ count) × (written ≤ p) × (length dir ≡ length dir₀) × (length store ≡ length store₀)
+Inv-loop dir₀ bytes store₀ size count e₀ written₀ p₀ dir store e written p = Flushing (memory dir₀ bytes store₀) p (memory dir bytes store) written × (e ≡ entryAt (residentsIn dir₀) p) × (p ≤ count) × (written ≤ p) × (length dir ≡ length dir₀) × (length store ≡ length store₀)
 
 abbrev μ-loop : tie.MeasureT-loop
-μ-loop dir₀ «data» store₀ size count e₀ written₀ p₀ dir store e written p = count - p
+μ-loop dir₀ bytes store₀ size count e₀ written₀ p₀ dir store e written p = count - p
 
 residents-requires : tie.Need-residents-requires Inv-loop μ-loop
 residents-requires c κs = search needs

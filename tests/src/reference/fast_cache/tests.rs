@@ -12,7 +12,13 @@ fn fresh(s: Settings, dir: &mut [u32]) -> u32 {
     0
 }
 
-const PLAIN: Tested = Tested { fresh, batch, sound: fast_judge::sound };
+fn look_into(dir: &mut [u32], data: &mut [u8], store: &mut [u8], block: u32, out: &mut [u8]) -> usize {
+    let part = look(dir, data, store, block).unwrap_or(&[]);
+    out[..part.len()].copy_from_slice(part);
+    part.len()
+}
+
+const PLAIN: Tested = Tested { fresh, batch, sound: fast_judge::sound, look: look_into };
 
 #[test]
 fn random_histories() {
@@ -27,13 +33,6 @@ fn random_histories() {
         };
         histories::go_on(&mut rng, &mut beside, 8, 50);
         seen.add(&beside.seen);
-        // a look gives what a read would give
-        for block in 0..s.m {
-            let resident = beside.stack.residents.iter().find(|resident| resident.block == block);
-            let place = (block * s.b) as usize..((block + 1) * s.b) as usize;
-            let expected = resident.map_or(&beside.store[place], |resident| &resident.bytes);
-            assert_eq!(look(&beside.dir, &beside.data, &beside.store, block), Ok(expected));
-        }
         assert_eq!(look(&beside.dir, &beside.data, &beside.store, s.m), Err(9));
         assert_eq!(look(&beside.dir, &[], &beside.store, s.m), Err(7));
         assert_eq!(look(&beside.dir[1..], &[], &beside.store, s.m), Err(6));
