@@ -5,7 +5,8 @@ use std::process::Command;
 
 fn main() {
     let here = PathBuf::from(std::env::var("CARGO_MANIFEST_DIR").unwrap());
-    let archives = std::env::var("FBR_ARCHIVE_DIR").map(PathBuf::from).unwrap_or_else(|_| here.join("../target/staticlib"));
+    let archives =
+        std::env::var("FBR_ARCHIVE_DIR").map(PathBuf::from).unwrap_or_else(|_| here.join("../target/staticlib"));
     println!("cargo:rerun-if-env-changed=FBR_ARCHIVE_DIR");
     println!("cargo:rerun-if-changed={}", archives.join("libffi.a").display());
     println!("cargo:rustc-link-lib=static=ffi");

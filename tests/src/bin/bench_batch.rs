@@ -1,6 +1,7 @@
 //! Nanoseconds of one reference in batches of 1,024 reads and writes: the library beside the same cache in plain Rust,
-//! with the same check before every batch, and beside a plain LRU cache, which checks nothing. Hit ratios of both.
-//! Run with `cargo run --release --bin bench_batch`.
+//! with the same check before every batch, its bytes copied by the C library or by a loop as the library's are; and
+//! beside a plain LRU cache, which checks nothing. The library's check of the directory alone; hit ratios.
+//! Run with `cargo run --release --bin bench_batch`; then, to look closer, rounds, N and B may follow.
 use cache_tests::reference::beside::Batch;
 use cache_tests::reference::directory::{fresh_words, kind, value, word};
 use cache_tests::reference::fast_cache;
@@ -16,7 +17,7 @@ const SIZES: [u32; 3] = [64, 512, 4_096];
 const BLOCK_SIZES: [u32; 2] = [64, 4_096];
 const WORDS: usize = 1_024;
 const BATCHES: usize = 48;
-const ROUNDS: usize = 7;
+const ROUNDS: usize = 41;
 /// Blocks of the store for each cache block.
 const STORE_FACTOR: u32 = 4;
 
@@ -91,6 +92,15 @@ impl Linked {
         }
         nanoseconds(start)
     }
+    /// Of a batch without words, which is the check alone, for each word of a full one.
+    fn check(&mut self) -> f64 {
+        let start = Instant::now();
+        for _ in 0..BATCHES {
+            let number = (self.batch)(&mut self.dir, &mut self.data, &mut self.store, &[], &[], &mut [], &mut []);
+            assert_eq!(number, 0);
+        }
+        nanoseconds(start)
+    }
     fn hit_ratio(&self) -> f64 {
         self.answers.iter().filter(|&&a| kind(a) == answer::HIT).count() as f64 / self.answers.len() as f64
     }
@@ -116,53 +126,68 @@ fn nanoseconds(start: Instant) -> f64 {
     start.elapsed().as_secs_f64() * 1e9 / (WORDS * BATCHES) as f64
 }
 
-fn row(rng: &mut Rng, s: Settings, name: &str, blocks: Blocks) {
+fn row(rng: &mut Rng, s: Settings, name: &str, blocks: Blocks, rounds: usize) {
     let batches = batches(rng, s, blocks);
     let b = s.b as usize;
     let (incoming, mut outgoing) = (vec![1; WORDS * b], vec![0; WORDS * b]);
     let mut library = Linked::new(cache_tests::batch, s);
     let mut plain = Linked::new(fast_cache::batch, s);
+    let mut by_loop = Linked::new(fast_cache::batch_by_loop, s);
     let mut lru = LruCache::new(s.n as usize, b, vec![0; (s.m * s.b) as usize]);
-    let (mut best, mut lru_hits) = ([f64::MAX; 3], 0);
+    let (mut best, mut lru_hits) = ([f64::MAX; 5], 0);
     // in turn, so that all meet the same machine; each round goes on from where the last one ended
-    for round in 0..=ROUNDS {
+    for round in 0..=rounds {
         let before = lru.hits;
         let times = [
             library.round(&batches, &incoming, &mut outgoing),
             plain.round(&batches, &incoming, &mut outgoing),
+            by_loop.round(&batches, &incoming, &mut outgoing),
             lru_round(&mut lru, b, &batches, &incoming, &mut outgoing),
+            library.check(),
         ];
         lru_hits = lru.hits - before;
-        assert!(library.answers == plain.answers, "the two caches give different answers");
+        assert!(library.answers == plain.answers && library.answers == by_loop.answers, "different answers");
         // the first round fills
         if round > 0 {
             best.iter_mut().zip(times).for_each(|(best, time)| *best = best.min(time));
         }
     }
-    let [of_library, of_plain, of_lru] = best;
-    let lru_ratio = lru_hits as f64 / (WORDS * BATCHES) as f64;
-    println!(
-        "{:>6} {b:>6} {name:>8} {of_library:>10.1} {of_plain:>10.1} {of_lru:>10.1} {:>9.2} {:>9.2} {:>8.3} {:>8.3}",
-        s.n,
-        of_library / of_plain,
-        of_library / of_lru,
-        library.hit_ratio(),
-        lru_ratio,
+    let [of_library, of_plain, of_loop, of_lru, of_check] = best;
+    print!(
+        "{:>6} {b:>6} {name:>8} {of_library:>8.1} {of_check:>6.1} {of_plain:>8.1} {of_loop:>8.1} {of_lru:>8.1}",
+        s.n
     );
+    print!(" {:>9.2} {:>8.2} {:>7.2}", of_library / of_plain, of_library / of_loop, of_library / of_lru);
+    println!(" {:>6.3} {:>8.3}", library.hit_ratio(), lru_hits as f64 / (WORDS * BATCHES) as f64);
 }
 
 fn main() {
+    let asked: Vec<u32> = std::env::args().skip(1).map(|word| word.parse().unwrap()).collect();
+    let of = |place: usize, value: u32| asked.get(place).is_none_or(|&only| only == value);
+    let rounds = asked.first().map_or(ROUNDS, |&rounds| rounds as usize);
     let mut rng = Rng::announced("bench_batch", 42);
-    println!("UNIX settings, M = {STORE_FACTOR} N, a quarter writes; best of {ROUNDS} rounds of {BATCHES} batches of {WORDS} words;");
-    println!("nanoseconds of one reference, the library's ratio to each of the others, and hit ratios");
+    println!("UNIX settings, M = {STORE_FACTOR} N, a quarter writes; best of {rounds} rounds of {BATCHES} batches of {WORDS} words;");
+    println!("nanoseconds of one reference, the check alone among them; the library's ratio to each other; hit ratios");
     println!(
-        "{:>6} {:>6} {:>8} {:>10} {:>10} {:>10} {:>9} {:>9} {:>8} {:>8}",
-        "N", "B", "trace", "library", "plain", "LRU", "to plain", "to LRU", "hits", "LRU hits"
+        "{:>6} {:>6} {:>8} {:>8} {:>6} {:>8} {:>8} {:>8} {:>9} {:>8} {:>7} {:>6} {:>8}",
+        "N",
+        "B",
+        "trace",
+        "library",
+        "check",
+        "plain",
+        "by loop",
+        "LRU",
+        "to plain",
+        "to loop",
+        "to LRU",
+        "hits",
+        "LRU hits"
     );
-    for n in SIZES {
-        for b in BLOCK_SIZES {
+    for n in SIZES.into_iter().filter(|&n| of(1, n)) {
+        for b in BLOCK_SIZES.into_iter().filter(|&b| of(2, b)) {
             for (name, blocks) in TRACES {
-                row(&mut rng, named(Profile::Unix, n, b, STORE_FACTOR * n), name, blocks);
+                row(&mut rng, named(Profile::Unix, n, b, STORE_FACTOR * n), name, blocks, rounds);
             }
         }
     }

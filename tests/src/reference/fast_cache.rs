@@ -8,6 +8,7 @@ use super::fnv;
 use super::settings::{sum_limit, MAX_COUNT};
 use super::stack::{answer, work, MOST_TOTAL};
 use crate::Settings;
+use std::hint::black_box;
 
 mod links;
 #[cfg(test)]
@@ -15,6 +16,21 @@ mod tests;
 
 /// Runs a batch and returns 0, or changes nothing and returns 6 to 11.
 pub fn batch(
+    dir: &mut [u32], data: &mut [u8], store: &mut [u8], work: &[u32], incoming: &[u8], answers: &mut [u32],
+    outgoing: &mut [u8],
+) -> u32 {
+    run::<false>(dir, data, store, work, incoming, answers, outgoing)
+}
+
+/// The same, its bytes copied by a loop as the library's are.
+pub fn batch_by_loop(
+    dir: &mut [u32], data: &mut [u8], store: &mut [u8], work: &[u32], incoming: &[u8], answers: &mut [u32],
+    outgoing: &mut [u8],
+) -> u32 {
+    run::<true>(dir, data, store, work, incoming, answers, outgoing)
+}
+
+fn run<const LOOP: bool>(
     dir: &mut [u32], data: &mut [u8], store: &mut [u8], work: &[u32], incoming: &[u8], answers: &mut [u32],
     outgoing: &mut [u8],
 ) -> u32 {
@@ -26,7 +42,7 @@ pub fn batch(
     if number != 0 {
         return number;
     }
-    let mut cache = Cache::over(s, dir, data, store);
+    let mut cache = Cache::<LOOP>::over(s, dir, data, store);
     let b = cache.s.b as usize;
     let (mut incoming, mut outgoing) = (incoming.chunks_exact(b), outgoing.chunks_exact_mut(b));
     for (answer, &w) in answers.iter_mut().zip(work) {
@@ -117,10 +133,24 @@ fn find(dir: &[u32], map: Map, block: u32) -> Option<u32> {
     None
 }
 
+/// Copies bytes by the C library, or by a loop.
+fn copy<const LOOP: bool>(from: &[u8], to: &mut [u8]) {
+    if !LOOP {
+        return to.copy_from_slice(from);
+    }
+    assert_eq!(from.len(), to.len());
+    // pointers of which nothing is known, or the compiler would call the C library
+    let (source, target) = (black_box(from.as_ptr()), black_box(to.as_mut_ptr()));
+    for i in 0..from.len() {
+        // SAFETY: the pointers of two slices, whose length i is below.
+        unsafe { *target.add(i) = *source.add(i) };
+    }
+}
+
 /// The first position of a section, the word that names the resident there, and the section.
 type Boundary = (u32, usize, u32);
 
-struct Cache<'a> {
+struct Cache<'a, const LOOP: bool> {
     words: &'a mut [u32],
     data: &'a mut [u8],
     store: &'a mut [u8],
@@ -131,8 +161,8 @@ struct Cache<'a> {
     totals: Totals,
 }
 
-impl<'a> Cache<'a> {
-    fn over(s: Settings, dir: &'a mut [u32], data: &'a mut [u8], store: &'a mut [u8]) -> Cache<'a> {
+impl<'a, const LOOP: bool> Cache<'a, LOOP> {
+    fn over(s: Settings, dir: &'a mut [u32], data: &'a mut [u8], store: &'a mut [u8]) -> Self {
         let totals = Totals {
             reads: total(dir, header::READS_LOW),
             writes: total(dir, header::WRITES_LOW),
@@ -185,12 +215,12 @@ impl<'a> Cache<'a> {
             None => {
                 let answer = self.enter(block);
                 let (bytes, place) = (self.bytes_of(self.at(header::HEAD)), self.place(block));
-                self.data[bytes].copy_from_slice(&self.store[place]);
+                copy::<LOOP>(&self.store[place], &mut self.data[bytes]);
                 self.totals.ins += 1;
                 answer
             }
         };
-        out.copy_from_slice(&self.data[self.bytes_of(self.at(header::HEAD))]);
+        copy::<LOOP>(&self.data[self.bytes_of(self.at(header::HEAD))], out);
         self.halved_after(answer)
     }
 
@@ -202,7 +232,7 @@ impl<'a> Cache<'a> {
         };
         let e = self.at(header::HEAD);
         let place = self.bytes_of(e);
-        self.data[place].copy_from_slice(bytes);
+        copy::<LOOP>(bytes, &mut self.data[place]);
         self.number_of(e, entry::MODIFIED, 1);
         self.halved_after(answer)
     }
@@ -292,7 +322,7 @@ impl<'a> Cache<'a> {
 
     fn write_out(&mut self, e: u32) {
         let (bytes, place) = (self.bytes_of(e), self.place(self.of(e, entry::BLOCK)));
-        self.store[place].copy_from_slice(&self.data[bytes]);
+        copy::<LOOP>(&self.data[bytes], &mut self.store[place]);
         self.totals.outs += 1;
     }
 

@@ -13,7 +13,7 @@ pub struct List {
 const STACK: List =
     List { head: header::HEAD, tail: header::TAIL, to_head: entry::TOWARDS_HEAD, to_tail: entry::TOWARDS_TAIL };
 
-impl Cache<'_> {
+impl<const LOOP: bool> Cache<'_, LOOP> {
     /// Moves the resident at position 0, or one that leaves, from its chain to that of its new count; 0 is no count.
     pub fn recount(&mut self, e: u32, count: u32) {
         let before = self.of(e, entry::COUNT);

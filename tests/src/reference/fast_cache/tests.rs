@@ -1,5 +1,5 @@
 //! The linked cache beside the plain stack.
-use super::{batch, look};
+use super::{batch, batch_by_loop, look};
 use crate::reference::beside::{Seen, Tested};
 use crate::reference::directory::fresh_words;
 use crate::reference::rng::Rng;
@@ -27,9 +27,10 @@ fn random_histories() {
     for history in 0..800 {
         let n = rng.within(1, 24);
         let s = histories::settings(&mut rng, n);
+        let tested = if history % 4 < 3 { PLAIN } else { Tested { batch: batch_by_loop, ..PLAIN } };
         let mut beside = match history % 2 {
-            0 => histories::fresh(&mut rng, PLAIN, s),
-            _ => histories::built(&mut rng, PLAIN, s),
+            0 => histories::fresh(&mut rng, tested, s),
+            _ => histories::built(&mut rng, tested, s),
         };
         histories::go_on(&mut rng, &mut beside, 8, 50);
         seen.add(&beside.seen);
