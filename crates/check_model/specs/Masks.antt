@@ -1,5 +1,5 @@
 -- A power of two as a mask. Assumes nothing.
-use Prim.Native.Nat.{ℕ, _-_, _%_, _^_, _≤_}
+use Prim.Native.Nat.{ℕ, _-_, _%_, _≤_}
 use mathlib.Core.Path.{_≡_}
 use lib.Bits.{bitAnd, and-mask}
 use Rattle.settings.specs.Buckets.{buckets}

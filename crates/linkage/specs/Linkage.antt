@@ -9,11 +9,11 @@ use Rattle.settings.specs.NumbersLaws.{LegalSettings, legal-settings}
 use Rattle.layout.specs.Sound.{settingsIn, order, unusedEntries, sound}
 use Rattle.check_model.specs.Stack as stack
 use Rattle.check_model.specs.Facts.{sound-facts}
-use Rattle.linkage.specs.Fields.{Fields, View}
+use Rattle.linkage.specs.Fields.{View}
 use Rattle.linkage.specs.WellLinked.{WellLinked}
 use Rattle.linkage.specs.WordFields.{given, shape, fields, view-of}
 use Rattle.linkage.specs.FromSound.{well-linked}
-use Rattle.linkage.specs.ToSound.{Limits, sound-of-linked}
+use Rattle.linkage.specs.ToSound.{Limits}
 
 -- The lists are those that the definition reads off the links.
 pub record Linkage (w : List ℕ) : Type 0 where
@@ -50,7 +50,3 @@ linkage w h =
       order-is = stack.order-is w (g .listing);
       unused-is = stack.unused-is w (g .listing);
     }
-
--- whatever the fields are called
-pub sound-again : (w : List ℕ) (D : Fields) (xs ys : List ℕ) → View (shape w) w D → WellLinked (shape w) D xs ys → Limits w → T (sound w)
-sound-again = sound-of-linked

@@ -31,8 +31,6 @@ sum-upd (suc n) f e v a b = go (ℕ-discrete e (suc n)) (sum-upd n f e v a)
         omega (arith, ih (omega arith))
 
 -- an entry has at most what all have
-pub sum-one : (n : ℕ) (f : ℕ → ℕ) (e : ℕ) → 1 ≤ e → e ≤ n → f e ≤ Sum n f
-sum-one n f e a b = omega (arith, sum-upd n f e 0 a b)
 
 -- ---- counts that keep who is resident
 

@@ -39,7 +39,6 @@ pub mod VictimWords
 pub mod Mark
 pub mod After
 pub mod Average
-pub mod Ask
 pub mod Counted
 pub mod Stands
 pub mod Step

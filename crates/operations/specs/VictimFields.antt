@@ -31,10 +31,6 @@ pub record LastOf (key : ℕ → ℕ) (c : ℕ) (residents : List ℕ) (z : ℕ)
   pub has : key z ≡ c
   pub rest : All (λ x. ¬ (key x ≡ c)) behind
 
-pub record NoneOf (key : ℕ → ℕ) (c : ℕ) (residents : List ℕ) (z : ℕ) : Type 0 where
-  pub zero-is : z ≡ 0
-  pub none : All (λ x. ¬ (key x ≡ c)) residents
-
 -- the last of key c, or a where there is none
 abbrev Last : (ℕ → ℕ) → ℕ → ℕ → List ℕ → ℕ → Type 0
 Last key c a residents z = ((z ≡ a) × All (λ x. ¬ (key x ≡ c)) residents) ⊎ LastOf key c residents z

@@ -2,7 +2,7 @@
 use Prim.Native.Nat.{ℕ, zero, suc, _*_, _≤_}
 use native.Mathlib.Omega.{arith}
 use mathlib.Core.Path.{_≡_, refl, sym, ap, ap₂, subst, subst₂, _∙_}
-use mathlib.Core.Bool.{Bool, true, false, not}
+use mathlib.Core.Bool.{not}
 use mathlib.Core.List.{List, [], _∷_, _++_, map}
 use lib.ListN.{length, take, drop, take-append-drop}
 use lib.Seq.{length-take-le, take-take, take-append-le, drop-append-le}
@@ -19,10 +19,6 @@ use Rattle.layout.specs.Sound.{settingsIn, totalsIn, sound, view}
 use Rattle.promises.specs.Promises.{over, Fresh, Slices, cacheIn, behind, callOf, numberOf, halved, Accepted, Batch}
 use Rattle.promises.specs.SliceLaws.{number-sound, accepted-same, accepted-reported, after-settings, after-bytes, after-store}
 use Rattle.promises.specs.Demand3.{Memory, Lending, lends, leaves, Linked, end, call, asCall, starts, Alike, Agrees, Follows, Demand3, LinkBound}
-
-T→true : (b : Bool) → T b → b ≡ true
-T→true true t = refl
-T→true false t = absurd t
 
 abbrev see : Memory → Cache
 see m = cacheIn (m .directory) (m .bytes) (m .store)

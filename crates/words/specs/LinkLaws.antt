@@ -103,8 +103,6 @@ unfolding setNumber
 one-number u i v = within-set u i (number (v % 2 ^ 28))
 
 -- one store more
-pub and-link : (k : ℕ) (u w : List ℕ) (i v : ℕ) → Within k u w → Within (k + 1) u (setLink w i v)
-and-link k u w i v g = within-then k 1 u w (setLink w i v) g (one-link w i v)
 
 pub and-number : (k : ℕ) (u w : List ℕ) (i v : ℕ) → isLink (getD u i 0) ≡ false → Within k u w → Within k u (setNumber w i v)
 unfolding setNumber

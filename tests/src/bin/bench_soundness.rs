@@ -8,8 +8,8 @@ use std::hint::black_box;
 use std::time::Instant;
 
 const SIZES: [u32; 3] = [64, 512, 4_096];
-/// Several directories, so that no check profits from having learnt one.
-const DIRECTORIES: usize = 8;
+/// Entries of all directories of a size: so many directories that no check profits from having learnt them.
+const ENTRIES: usize = 1 << 15;
 const ROUNDS: usize = 15;
 /// Entries checked in a round, whatever the size.
 const ENTRIES_A_ROUND: usize = 1 << 20;
@@ -33,8 +33,8 @@ fn row(rng: &mut Rng, n: u32, name: &str, blocks: Blocks) {
         let blocks = blocks(rng, s, n);
         samples::plan_with(rng, s, blocks).build()
     };
-    let directories: Vec<Vec<u32>> = (0..DIRECTORIES).map(|_| directory()).collect();
-    let times = ENTRIES_A_ROUND / (n as usize * DIRECTORIES);
+    let directories: Vec<Vec<u32>> = (0..ENTRIES / n as usize).map(|_| directory()).collect();
+    let times = ENTRIES_A_ROUND / ENTRIES;
     let checks = [cache_tests::sound, c_judge::sound, fast_judge::sound];
     let mut best = [f64::MAX; 3];
     // in turn, so that all meet the same machine

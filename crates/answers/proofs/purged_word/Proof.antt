@@ -1,4 +1,3 @@
-use mathlib.Core.Path.{refl}
 use Rattle.stack.specs.Stack.{answerWord}
 use borrow.Author.Needs.{needs}
 use Rattle.answers.proofs.purged_word.Statement.{statement}

@@ -1,5 +1,4 @@
 use Rattle.operations.specs.Reads.{lookup-found}
-use mathlib.Core.Path.{_∙_}
 use borrow.Author.Needs.{needs}
 use Rattle.directory.proofs.lookup.Statement.{statement}
 use Rattle.directory.proofs.lookup.Tie as tie

@@ -1,6 +1,4 @@
 use Rattle.words.specs.WordLaws.{val-small}
-use Rattle.directory.proofs.Laws.{Small}
-use native.Mathlib.Omega.{arith}
 use borrow.Author.Needs.{needs}
 use Rattle.directory.proofs.raised_count.Statement.{statement}
 use Rattle.directory.proofs.raised_count.Tie as tie
