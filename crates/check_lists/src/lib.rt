@@ -17,38 +17,41 @@ fn tail_of(d: &[u32], i: u32) -> u32
 }
 
 // The entry that chain c names behind before.
-fn cursor_of(d: &[u32], x: &[u32], before: u32, c: u32) -> u32
-    ensures { λ r. ⌜ r ≡ cursor (entryWord (now (x .entry))) (headOf (now (d .entry))) before c ⌝ }
+fn cursor_of(d: &[u32], entries: &[u32], before: u32, c: u32) -> u32
+    ensures { λ r. ⌜ r ≡ cursor (entryWord (now (entries .entry))) (headOf (now (d .entry))) before c ⌝ }
 {
     if before == 0 {
         return head_of(d, c);
     }
-    words::get(x, 9 * (before as usize) + layout::CHAIN_TO_TAIL as usize)
+    words::get(
+        entries,
+        9 * (before as usize) + layout::CHAIN_TO_TAIL as usize,
+    )
 }
 
 // Entry e stands behind the last one of its count, or in no chain.
-pub fn chain_test(d: &[u32], x: &[u32], cmax: u32, e: u32, before: u32) -> bool
-    requires { ⌜ 9 * e + 8 < length (now x) ⌝ }
-    ensures { λ r. ⌜ r ≡ chainTest (entryWord (now (x .entry))) (headOf (now (d .entry))) cmax e before ⌝ }
+pub fn chain_test(d: &[u32], entries: &[u32], cmax: u32, e: u32, before: u32) -> bool
+    requires { ⌜ 9 * e + 8 < length (now entries) ⌝ }
+    ensures { λ r. ⌜ r ≡ chainTest (entryWord (now (entries .entry))) (headOf (now (d .entry))) cmax e before ⌝ }
 {
-    let count = check_stack::field(x, layout::COUNT, e);
+    let count = check_stack::field(entries, layout::COUNT, e);
     if count > cmax {
-        if check_stack::field(x, layout::CHAIN_TO_HEAD, e) == 0 {
-            return check_stack::field(x, layout::CHAIN_TO_TAIL, e) == 0;
+        if check_stack::field(entries, layout::CHAIN_TO_HEAD, e) == 0 {
+            return check_stack::field(entries, layout::CHAIN_TO_TAIL, e) == 0;
         }
         return false;
     }
-    if check_stack::field(x, layout::CHAIN_TO_HEAD, e) == before {
-        return cursor_of(d, x, before, count) == e;
+    if check_stack::field(entries, layout::CHAIN_TO_HEAD, e) == before {
+        return cursor_of(d, entries, before, count) == e;
     }
     false
 }
 
-fn end_test(d: &[u32], x: &[u32], i: u32, before: u32) -> bool
-    ensures { λ r. ⌜ r ≡ endTest (entryWord (now (x .entry))) (headOf (now (d .entry))) (tailOf (now (d .entry))) i before ⌝ }
+fn end_test(d: &[u32], entries: &[u32], i: u32, before: u32) -> bool
+    ensures { λ r. ⌜ r ≡ endTest (entryWord (now (entries .entry))) (headOf (now (d .entry))) (tailOf (now (d .entry))) i before ⌝ }
 {
     if tail_of(d, i) == before {
-        return cursor_of(d, x, before, i) == 0;
+        return cursor_of(d, entries, before, i) == 0;
     }
     false
 }
@@ -73,12 +76,12 @@ pub fn note(last: &mut [u32; 65], c: u32, e: u32)
 }
 
 // The chains end where the last entries of their counts are.
-pub fn ends_ok(d: &[u32], x: &[u32], cmax: u32, last: &[u32; 65]) -> bool
-    ensures { λ r. ⌜ r ≡ endsOk (entryWord (now (x .entry))) (headOf (now (d .entry))) (tailOf (now (d .entry))) cmax (now (last .entry)) ⌝ }
+pub fn ends_ok(d: &[u32], entries: &[u32], cmax: u32, last: &[u32; 65]) -> bool
+    ensures { λ r. ⌜ r ≡ endsOk (entryWord (now (entries .entry))) (headOf (now (d .entry))) (tailOf (now (d .entry))) cmax (now (last .entry)) ⌝ }
 {
     let mut i = 0;
     while i < cmax {
-        if !end_test(d, x, i + 1, last_of(last, i + 1)) {
+        if !end_test(d, entries, i + 1, last_of(last, i + 1)) {
             return false;
         }
         i += 1;
@@ -87,9 +90,9 @@ pub fn ends_ok(d: &[u32], x: &[u32], cmax: u32, last: &[u32; 65]) -> bool
 }
 
 // The entries from e on are among n, and none has that block.
-fn absent_from(x: &[u32], n: u32, block: u32, budget: u32, first: u32) -> bool
-    requires { ⌜ 9 * n + 8 < length (now x) ⌝ }
-    ensures { λ r. ⌜ r ≡ absent (entryWord (now (x .entry))) n block budget first ⌝ }
+fn absent_from(entries: &[u32], n: u32, block: u32, budget: u32, first: u32) -> bool
+    requires { ⌜ 9 * n + 8 < length (now entries) ⌝ }
+    ensures { λ r. ⌜ r ≡ absent (entryWord (now (entries .entry))) n block budget first ⌝ }
 {
     let mut e = first;
     let mut left = budget;
@@ -100,43 +103,43 @@ fn absent_from(x: &[u32], n: u32, block: u32, budget: u32, first: u32) -> bool
         if e > n {
             return false;
         }
-        if check_stack::field(x, layout::BLOCK, e) == block {
+        if check_stack::field(entries, layout::BLOCK, e) == block {
             return false;
         }
-        e = check_stack::field(x, layout::NEXT_SYNONYM, e);
+        e = check_stack::field(entries, layout::NEXT_SYNONYM, e);
         left -= 1;
     }
     true
 }
 
 // Entry e may stand in bucket b, and no later one has its block.
-fn list_test(x: &[u32], n: u32, nb: u32, b: u32, budget: u32, e: u32) -> bool
-    requires { ⌜ (9 * n + 8 < length (now x)) × (0 < nb) × Masks (nb - 1) nb ⌝ }
-    ensures { λ r. ⌜ r ≡ listTest (entryWord (now (x .entry))) n nb b budget e ⌝ }
+fn list_test(entries: &[u32], n: u32, nb: u32, b: u32, budget: u32, e: u32) -> bool
+    requires { ⌜ (9 * n + 8 < length (now entries)) × (0 < nb) × Masks (nb - 1) nb ⌝ }
+    ensures { λ r. ⌜ r ≡ listTest (entryWord (now (entries .entry))) n nb b budget e ⌝ }
 {
     if e > n {
         return false;
     }
-    if check_stack::field(x, layout::COUNT, e) == 0 {
+    if check_stack::field(entries, layout::COUNT, e) == 0 {
         return false;
     }
-    let block = check_stack::field(x, layout::BLOCK, e);
+    let block = check_stack::field(entries, layout::BLOCK, e);
     if fnv::hash(block) & (nb - 1) == b {
         return absent_from(
-            x,
+            entries,
             n,
             block,
             budget,
-            check_stack::field(x, layout::NEXT_SYNONYM, e),
+            check_stack::field(entries, layout::NEXT_SYNONYM, e),
         );
     }
     false
 }
 
 // What is left of the budget after bucket b, and 1; 0 where its list is wrong.
-fn bucket(x: &[u32], n: u32, nb: u32, b: u32, budget: u32, first: u32) -> u32
-    requires { ⌜ (9 * n + 8 < length (now x)) × (0 < nb) × Masks (nb - 1) nb × (budget < 4294967295) ⌝ }
-    ensures { λ r. ⌜ r ≡ listed (entryWord (now (x .entry))) n nb b budget first ⌝ }
+fn bucket(entries: &[u32], n: u32, nb: u32, b: u32, budget: u32, first: u32) -> u32
+    requires { ⌜ (9 * n + 8 < length (now entries)) × (0 < nb) × Masks (nb - 1) nb × (budget < 4294967295) ⌝ }
+    ensures { λ r. ⌜ r ≡ listed (entryWord (now (entries .entry))) n nb b budget first ⌝ }
 {
     let mut e = first;
     let mut left = budget;
@@ -144,10 +147,10 @@ fn bucket(x: &[u32], n: u32, nb: u32, b: u32, budget: u32, first: u32) -> u32
         if e == 0 {
             return left + 1;
         }
-        if !list_test(x, n, nb, b, left - 1, e) {
+        if !list_test(entries, n, nb, b, left - 1, e) {
             return 0;
         }
-        e = check_stack::field(x, layout::NEXT_SYNONYM, e);
+        e = check_stack::field(entries, layout::NEXT_SYNONYM, e);
         left -= 1;
     }
     if e == 0 {
@@ -157,15 +160,15 @@ fn bucket(x: &[u32], n: u32, nb: u32, b: u32, budget: u32, first: u32) -> u32
 }
 
 // The buckets list count entries in all, each in its own.
-pub fn buckets_ok(d: &[u32], x: &[u32], start: u32, n: u32, nb: u32, count: u32) -> bool
-    requires { ⌜ (9 * n + 8 < length (now x)) × (0 < nb) × Masks (nb - 1) nb × (count < 4294967295) ⌝ }
-    ensures { λ r. ⌜ r ≡ bucketsFrom (entryWord (now (x .entry))) (firstOf (now (d .entry)) start) n nb nb 0 count ⌝ }
+pub fn buckets_ok(d: &[u32], entries: &[u32], start: u32, n: u32, nb: u32, count: u32) -> bool
+    requires { ⌜ (9 * n + 8 < length (now entries)) × (0 < nb) × Masks (nb - 1) nb × (count < 4294967295) ⌝ }
+    ensures { λ r. ⌜ r ≡ bucketsFrom (entryWord (now (entries .entry))) (firstOf (now (d .entry)) start) n nb nb 0 count ⌝ }
 {
     let mut b = 0;
     let mut left = count;
     while b < nb {
         let first = words::get(d, start as usize + b as usize);
-        let k = bucket(x, n, nb, b, left, first);
+        let k = bucket(entries, n, nb, b, left, first);
         if k == 0 {
             return false;
         }

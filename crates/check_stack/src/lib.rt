@@ -4,13 +4,13 @@ ghost use lib.ListN.{length};
 ghost use Rattle.check_model.specs.Nines.{hasKind, linksOk, nineTest, ninesOk};
 ghost use Rattle.check_model.specs.Tests.{entryWord, fieldTest, kindAt, kindTest, kindsOk, linkTest, sectionAt, unusedOk, unusedTest};
 
-// Word j of entry e. Here and below x are the words from 9 before those of entry 1 on: entry e has the nine from 9 × e on.
-pub fn field(x: &[u32], j: u32, e: u32) -> u32
-    requires { ⌜ 9 * e + j < length (now x) ⌝ }
-    ensures { λ r. ⌜ r ≡ entryWord (now (x .entry)) j e ⌝ }
+// Word j of entry e. Here and in the other tests `entries` are the words from entry 0 on, if there were one: entry e has the nine from 9 × e on.
+pub fn field(entries: &[u32], j: u32, e: u32) -> u32
+    requires { ⌜ 9 * e + j < length (now entries) ⌝ }
+    ensures { λ r. ⌜ r ≡ entryWord (now (entries .entry)) j e ⌝ }
 {
     let i = 9 * (e as usize) + j as usize;
-    x[i] % words::VALUES
+    entries[i] % words::VALUES
 }
 
 // The kind that word i has to have.
@@ -131,9 +131,9 @@ pub fn kinds_ok(d: &[u32], base: usize, n: usize) -> bool
 }
 
 // Entry e is one of n, and linked to the one before it.
-pub fn link_test(x: &[u32], n: u32, e: u32, before: u32) -> bool
-    requires { ⌜ 9 * n + 8 < length (now x) ⌝ }
-    ensures { λ r. ⌜ r ≡ linkTest (entryWord (now (x .entry))) n e before ⌝ }
+pub fn link_test(entries: &[u32], n: u32, e: u32, before: u32) -> bool
+    requires { ⌜ 9 * n + 8 < length (now entries) ⌝ }
+    ensures { λ r. ⌜ r ≡ linkTest (entryWord (now (entries .entry))) n e before ⌝ }
 {
     if e == 0 {
         return false;
@@ -141,7 +141,7 @@ pub fn link_test(x: &[u32], n: u32, e: u32, before: u32) -> bool
     if e > n {
         return false;
     }
-    field(x, layout::TO_HEAD, e) == before
+    field(entries, layout::TO_HEAD, e) == before
 }
 
 fn section_at(new: u32, mid: u32, p: u32) -> u32
@@ -157,13 +157,13 @@ fn section_at(new: u32, mid: u32, p: u32) -> u32
 }
 
 // The numbers of the resident at position p are right.
-pub fn field_test(x: &[u32], m: u32, new: u32, mid: u32, e: u32, p: u32) -> bool
-    requires { ⌜ 9 * e + 8 < length (now x) ⌝ }
-    ensures { λ r. ⌜ r ≡ fieldTest (entryWord (now (x .entry))) m new mid e p ⌝ }
+pub fn field_test(entries: &[u32], m: u32, new: u32, mid: u32, e: u32, p: u32) -> bool
+    requires { ⌜ 9 * e + 8 < length (now entries) ⌝ }
+    ensures { λ r. ⌜ r ≡ fieldTest (entryWord (now (entries .entry))) m new mid e p ⌝ }
 {
-    let block = field(x, layout::BLOCK, e);
-    let count = field(x, layout::COUNT, e);
-    let modified = field(x, layout::MODIFIED, e);
+    let block = field(entries, layout::BLOCK, e);
+    let count = field(entries, layout::COUNT, e);
+    let modified = field(entries, layout::MODIFIED, e);
     if block < m {
         if count < 1 {
             return false;
@@ -174,14 +174,14 @@ pub fn field_test(x: &[u32], m: u32, new: u32, mid: u32, e: u32, p: u32) -> bool
         if modified > 1 {
             return false;
         }
-        return field(x, layout::SECTION, e) == section_at(new, mid, p);
+        return field(entries, layout::SECTION, e) == section_at(new, mid, p);
     }
     false
 }
 
-fn unused_test(x: &[u32], n: u32, e: u32) -> bool
-    requires { ⌜ 9 * n + 8 < length (now x) ⌝ }
-    ensures { λ r. ⌜ r ≡ unusedTest (entryWord (now (x .entry))) n e ⌝ }
+fn unused_test(entries: &[u32], n: u32, e: u32) -> bool
+    requires { ⌜ 9 * n + 8 < length (now entries) ⌝ }
+    ensures { λ r. ⌜ r ≡ unusedTest (entryWord (now (entries .entry))) n e ⌝ }
 {
     if e == 0 {
         return false;
@@ -189,30 +189,30 @@ fn unused_test(x: &[u32], n: u32, e: u32) -> bool
     if e > n {
         return false;
     }
-    let a = field(x, layout::BLOCK, e) as u64
-        + field(x, layout::COUNT, e) as u64
-        + field(x, layout::SECTION, e) as u64
-        + field(x, layout::MODIFIED, e) as u64;
+    let a = field(entries, layout::BLOCK, e) as u64
+        + field(entries, layout::COUNT, e) as u64
+        + field(entries, layout::SECTION, e) as u64
+        + field(entries, layout::MODIFIED, e) as u64;
     a
-        + field(x, layout::TO_HEAD, e) as u64
-        + field(x, layout::CHAIN_TO_HEAD, e) as u64
-        + field(x, layout::CHAIN_TO_TAIL, e) as u64
-        + field(x, layout::NEXT_SYNONYM, e) as u64
+        + field(entries, layout::TO_HEAD, e) as u64
+        + field(entries, layout::CHAIN_TO_HEAD, e) as u64
+        + field(entries, layout::CHAIN_TO_TAIL, e) as u64
+        + field(entries, layout::NEXT_SYNONYM, e) as u64
         == 0
 }
 
 // The unused list has count entries, all their other values 0.
-pub fn unused_ok(x: &[u32], n: u32, count: u32, first: u32) -> bool
-    requires { ⌜ 9 * n + 8 < length (now x) ⌝ }
-    ensures { λ r. ⌜ r ≡ unusedOk (entryWord (now (x .entry))) n count first ⌝ }
+pub fn unused_ok(entries: &[u32], n: u32, count: u32, first: u32) -> bool
+    requires { ⌜ 9 * n + 8 < length (now entries) ⌝ }
+    ensures { λ r. ⌜ r ≡ unusedOk (entryWord (now (entries .entry))) n count first ⌝ }
 {
     let mut e = first;
     let mut left = count;
     while left > 0 {
-        if !unused_test(x, n, e) {
+        if !unused_test(entries, n, e) {
             return false;
         }
-        e = field(x, layout::TO_TAIL, e);
+        e = field(entries, layout::TO_TAIL, e);
         left -= 1;
     }
     e == 0

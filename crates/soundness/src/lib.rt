@@ -49,7 +49,7 @@ fn totals_ok(d: &[u32], marks: u64) -> bool
 // The resident e at position p: linked, its numbers right, behind the last of its count.
 fn entry_ok(
     d: &[u32],
-    x: &[u32],
+    entries: &[u32],
     n: u32,
     m: u32,
     new: u32,
@@ -60,23 +60,23 @@ fn entry_ok(
     p: u32,
     last: &[u32; 65],
 ) -> bool
-    requires { ⌜ 9 * n + 8 < length (now x) ⌝ }
-    ensures { λ r. ⌜ r ≡ entryTest (entryWord (now (x .entry))) (headOf (now (d .entry))) n m new mid cmax e before p (now (last .entry)) ⌝ }
+    requires { ⌜ 9 * n + 8 < length (now entries) ⌝ }
+    ensures { λ r. ⌜ r ≡ entryTest (entryWord (now (entries .entry))) (headOf (now (d .entry))) n m new mid cmax e before p (now (last .entry)) ⌝ }
 {
-    if !check_stack::link_test(x, n, e, before) {
+    if !check_stack::link_test(entries, n, e, before) {
         return false;
     }
-    if !check_stack::field_test(x, m, new, mid, e, p) {
+    if !check_stack::field_test(entries, m, new, mid, e, p) {
         return false;
     }
-    let c = check_stack::field(x, layout::COUNT, e);
-    check_lists::chain_test(d, x, cmax, e, check_lists::last_of(last, c))
+    let c = check_stack::field(entries, layout::COUNT, e);
+    check_lists::chain_test(d, entries, cmax, e, check_lists::last_of(last, c))
 }
 
 // What is left to test where the walk ends.
 fn end_ok(
     d: &[u32],
-    x: &[u32],
+    entries: &[u32],
     n: u32,
     cmax: u32,
     average: u32,
@@ -89,7 +89,7 @@ fn end_ok(
     aged: u32,
 ) -> bool
     requires { ⌜ (n ≤ 4096) × (average ≤ 1000) × (marks ≤ 17592186044416) ⌝ }
-    ensures { λ r. ⌜ r ≡ walkEnd (now (d .entry)) (entryWord (now (x .entry))) n cmax average e before s marks (now (last .entry)) middle aged ⌝ }
+    ensures { λ r. ⌜ r ≡ walkEnd (now (d .entry)) (entryWord (now (entries .entry))) n cmax average e before s marks (now (last .entry)) middle aged ⌝ }
 {
     if e != 0 {
         return false;
@@ -97,7 +97,7 @@ fn end_ok(
     if before != words::value(d, layout::TAIL) {
         return false;
     }
-    if !check_lists::ends_ok(d, x, cmax, last) {
+    if !check_lists::ends_ok(d, entries, cmax, last) {
         return false;
     }
     if !numbers_ok(d, n, average, s, middle, aged) {
@@ -119,7 +119,7 @@ fn met_at(p: u32, q: u32, e: u32, a: u32) -> u32
 // One walk along the stack: links, numbers, chains, sums and boundaries.
 fn walk_ok(
     d: &[u32],
-    x: &[u32],
+    entries: &[u32],
     n: u32,
     m: u32,
     new: u32,
@@ -129,8 +129,8 @@ fn walk_ok(
     count: u32,
     head: u32,
 ) -> bool
-    requires { ⌜ (n ≤ 4096) × (amax ≤ 1000) × (count ≤ 4096) × (9 * n + 8 < length (now x)) ⌝ }
-    ensures { λ r. ⌜ r ≡ walkTest (now (d .entry)) (entryWord (now (x .entry))) n m new mid cmax amax count head ⌝ }
+    requires { ⌜ (n ≤ 4096) × (amax ≤ 1000) × (count ≤ 4096) × (9 * n + 8 < length (now entries)) ⌝ }
+    ensures { λ r. ⌜ r ≡ walkTest (now (d .entry)) (entryWord (now (entries .entry))) n m new mid cmax amax count head ⌝ }
 {
     let mut last = [0; 65];
     let mut e = head;
@@ -141,20 +141,33 @@ fn walk_ok(
     let mut young = 0;
     let mut old = 0;
     while p < count {
-        if !entry_ok(d, x, n, m, new, mid, cmax, e, before, p, &last) {
+        if !entry_ok(d, entries, n, m, new, mid, cmax, e, before, p, &last) {
             return false;
         }
-        let c = check_stack::field(x, layout::COUNT, e);
+        let c = check_stack::field(entries, layout::COUNT, e);
         s += c as u64;
-        marks += check_stack::field(x, layout::MODIFIED, e) as u64;
+        marks += check_stack::field(entries, layout::MODIFIED, e) as u64;
         check_lists::note(&mut last, c, e);
         young = met_at(p, new, e, young);
         old = met_at(p, mid, e, old);
         before = e;
-        e = check_stack::field(x, layout::TO_TAIL, e);
+        e = check_stack::field(entries, layout::TO_TAIL, e);
         p += 1;
     }
-    end_ok(d, x, n, cmax, amax, e, before, s, marks, &last, young, old)
+    end_ok(
+        d,
+        entries,
+        n,
+        cmax,
+        amax,
+        e,
+        before,
+        s,
+        marks,
+        &last,
+        young,
+        old,
+    )
 }
 
 // The stack, the unused list and the rest, of legal settings.
@@ -163,19 +176,19 @@ fn lists_ok(d: &[u32], n: u32, new: u32, old: u32, cmax: u32, average: u32, m: u
     ensures { λ r. ⌜ r ≡ listsWalk (now (d .entry)) n new old cmax average m nb ⌝ }
 {
     let at = 15 + 2 * (cmax as usize) + nb as usize;
-    let x = &d[at..];
+    let entries = &d[at..];
     let count = words::value(d, layout::RESIDENTS);
     let head = words::value(d, layout::HEAD);
     if count > n {
         return false;
     }
-    if !walk_ok(d, x, n, m, new, n - old, cmax, average, count, head) {
+    if !walk_ok(d, entries, n, m, new, n - old, cmax, average, count, head) {
         return false;
     }
-    if !check_stack::unused_ok(x, n, n - count, words::value(d, layout::UNUSED)) {
+    if !check_stack::unused_ok(entries, n, n - count, words::value(d, layout::UNUSED)) {
         return false;
     }
-    check_lists::buckets_ok(d, x, 24 + 2 * cmax, n, nb, count)
+    check_lists::buckets_ok(d, entries, 24 + 2 * cmax, n, nb, count)
 }
 
 fn passes(d: &[u32]) -> bool

@@ -10,10 +10,10 @@ use Rattle.check_lists.proofs.absent_from.Reads as reads
 use Rattle.check_lists.proofs.absent_from.Lts as lts
 
 abbrev Inv-loop : tie.InvT-loop
-Inv-loop x n block budget first e₀ left₀ e left = absent (entryWord x) n block left e ≡ absent (entryWord x) n block budget first
+Inv-loop entries n block budget first e₀ left₀ e left = absent (entryWord entries) n block left e ≡ absent (entryWord entries) n block budget first
 
 abbrev μ-loop : tie.MeasureT-loop
-μ-loop x n block budget first e₀ left₀ e left = left
+μ-loop entries n block budget first e₀ left₀ e left = left
 
 loop-holds : tie.Need-loop-holds Inv-loop μ-loop
 loop-holds c = refl

@@ -13,10 +13,10 @@ use Rattle.check_lists.proofs.bucket.Lts as lts
 use Rattle.check_lists.proofs.list_test.Reads as list-test-reads
 
 abbrev Inv-loop : tie.InvT-loop
-Inv-loop x n nb b budget first e₀ left₀ e left = (listed (entryWord x) n nb b left e ≡ listed (entryWord x) n nb b budget first) × (left ≤ budget)
+Inv-loop entries n nb b budget first e₀ left₀ e left = (listed (entryWord entries) n nb b left e ≡ listed (entryWord entries) n nb b budget first) × (left ≤ budget)
 
 abbrev μ-loop : tie.MeasureT-loop
-μ-loop x n nb b budget first e₀ left₀ e left = left
+μ-loop entries n nb b budget first e₀ left₀ e left = left
 
 loop-holds : tie.Need-loop-holds Inv-loop μ-loop
 loop-holds c = (refl, omega arith)

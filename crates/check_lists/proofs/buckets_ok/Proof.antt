@@ -13,10 +13,10 @@ use Rattle.check_lists.proofs.buckets_ok.Lts as lts
 use Rattle.check_lists.proofs.bucket.Reads as bucket-reads
 
 abbrev Inv-loop : tie.InvT-loop
-Inv-loop d x start n nb count b₀ left₀ b left = (bucketsFrom (entryWord x) (firstOf d start) n nb (nb - b) b left ≡ bucketsFrom (entryWord x) (firstOf d start) n nb nb 0 count) × (left ≤ count)
+Inv-loop d entries start n nb count b₀ left₀ b left = (bucketsFrom (entryWord entries) (firstOf d start) n nb (nb - b) b left ≡ bucketsFrom (entryWord entries) (firstOf d start) n nb nb 0 count) × (left ≤ count)
 
 abbrev μ-loop : tie.MeasureT-loop
-μ-loop d x start n nb count b₀ left₀ b left = nb - b
+μ-loop d entries start n nb count b₀ left₀ b left = nb - b
 
 loop-holds : tie.Need-loop-holds Inv-loop μ-loop
 loop-holds c = (rw sub-zero, omega arith)
@@ -38,7 +38,7 @@ unfolding firstOf
 returns c =
     let l = c .before .before .before .before .loop in
     let a = c .before .before .before .before .before .before .before .args in
-    let g : c .before .bucket .result ≡ listed (entryWord (a .x .now)) (a .n) (a .nb) (l .b) (l .left) (firstOf (a .d .now) (a .start) (l .b)) = rw (← c .before .before .get .ensures) (c .before .bucket .ensures) in
+    let g : c .before .bucket .result ≡ listed (entryWord (a .entries .now)) (a .n) (a .nb) (l .b) (l .left) (firstOf (a .d .now) (a .start) (l .b)) = rw (← c .before .before .get .ensures) (c .before .bucket .ensures) in
     sym (buckets-fail _ _ _ _ _ (l .b) (l .left) (omega arith) (sym g ∙ c .if1 .taken)) ∙ l .inv .0
 
 sub-left : tie.Need-sub-left Inv-loop μ-loop
@@ -55,8 +55,8 @@ unfolding firstOf
 loop-again c =
     let l = c .before .before .before .before .loop in
     let a = c .before .before .before .before .before .before .before .args in
-    let g : c .before .bucket .result ≡ listed (entryWord (a .x .now)) (a .n) (a .nb) (l .b) (l .left) (firstOf (a .d .now) (a .start) (l .b)) = rw (← c .before .before .get .ensures) (c .before .bucket .ensures) in
-    (rw g (sym (buckets-go _ _ _ _ _ (l .b) (l .left) (c .before .before .before .loop-test .taken) (λ q. c .if1 .left (g ∙ q))) ∙ l .inv .0), omega (arith, g, listed-le (entryWord (a .x .now)) (a .n) (a .nb) (l .b) (l .left) (firstOf (a .d .now) (a .start) (l .b))))
+    let g : c .before .bucket .result ≡ listed (entryWord (a .entries .now)) (a .n) (a .nb) (l .b) (l .left) (firstOf (a .d .now) (a .start) (l .b)) = rw (← c .before .before .get .ensures) (c .before .bucket .ensures) in
+    (rw g (sym (buckets-go _ _ _ _ _ (l .b) (l .left) (c .before .before .before .loop-test .taken) (λ q. c .if1 .left (g ∙ q))) ∙ l .inv .0), omega (arith, g, listed-le (entryWord (a .entries .now)) (a .n) (a .nb) (l .b) (l .left) (firstOf (a .d .now) (a .start) (l .b))))
 
 returns-2 : tie.Need-returns-2 Inv-loop μ-loop
 returns-2 c = let l = c .before .loop in sym (buckets-end _ _ _ _ _ (l .b) (l .left) (omega arith)) ∙ l .inv .0

@@ -15,10 +15,10 @@ use Rattle.check_lists.proofs.end_test.Reads as end-test-reads
 use Rattle.check_lists.proofs.last_of.Reads as last-of-reads
 
 abbrev Inv-loop : tie.InvT-loop
-Inv-loop d x cmax last i₀ i = endsFrom (entryWord x) (headOf d) (tailOf d) last (cmax - i) i ≡ endsOk (entryWord x) (headOf d) (tailOf d) cmax last
+Inv-loop d entries cmax last i₀ i = endsFrom (entryWord entries) (headOf d) (tailOf d) last (cmax - i) i ≡ endsOk (entryWord entries) (headOf d) (tailOf d) cmax last
 
 abbrev μ-loop : tie.MeasureT-loop
-μ-loop d x cmax last i₀ i = cmax - i
+μ-loop d entries cmax last i₀ i = cmax - i
 
 loop-holds : tie.Need-loop-holds Inv-loop μ-loop
 unfolding endsOk

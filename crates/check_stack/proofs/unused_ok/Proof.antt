@@ -12,10 +12,10 @@ use Rattle.check_stack.proofs.field.Reads as field-reads
 use Rattle.check_stack.proofs.unused_test.Reads as unused-test-reads
 
 abbrev Inv-loop : tie.InvT-loop
-Inv-loop x n count first e₀ left₀ e left = unusedFrom (entryWord x) n left e ≡ unusedOk (entryWord x) n count first
+Inv-loop entries n count first e₀ left₀ e left = unusedFrom (entryWord entries) n left e ≡ unusedOk (entryWord entries) n count first
 
 abbrev μ-loop : tie.MeasureT-loop
-μ-loop x n count first e₀ left₀ e left = left
+μ-loop entries n count first e₀ left₀ e left = left
 
 loop-holds : tie.Need-loop-holds Inv-loop μ-loop
 unfolding unusedOk

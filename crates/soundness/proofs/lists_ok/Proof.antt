@@ -19,17 +19,17 @@ add-at c = search needs
 add-at-2 : tie.Need-add-at-2
 add-at-2 c = search needs
 
-mul-x : tie.Need-mul-x
-mul-x c = search needs
+mul-entries : tie.Need-mul-entries
+mul-entries c = search needs
 
-sub-x : tie.Need-sub-x
-sub-x c = search needs
+sub-entries : tie.Need-sub-entries
+sub-entries c = search needs
 
-part-x-start : tie.Need-part-x-start
-part-x-start c = search needs
+part-entries-start : tie.Need-part-entries-start
+part-entries-start c = search needs
 
-part-x-end : tie.Need-part-x-end
-part-x-end c = search needs
+part-entries-end : tie.Need-part-entries-end
+part-entries-end c = search needs
 
 value-requires : tie.Need-value-requires
 value-requires c κs = search needs
@@ -81,10 +81,10 @@ lists-ok-spec =
     mul-at
     add-at
     add-at-2
-    mul-x
-    sub-x
-    part-x-start
-    part-x-end
+    mul-entries
+    sub-entries
+    part-entries-start
+    part-entries-end
     value-requires
     value-requires-2
     returns

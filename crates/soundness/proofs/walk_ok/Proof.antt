@@ -18,11 +18,11 @@ use Rattle.soundness.proofs.entry_ok.Reads as entry-ok-reads
 use Rattle.soundness.proofs.met_at.Reads as met-at-reads
 
 abbrev Inv-loop : tie.InvT-loop
-Inv-loop d x n m new mid cmax amax count head last₀ e₀ before₀ p₀ s₀ marks₀ young₀ old₀ last e before p s marks young old =
-    (walkFrom d (entryWord x) n m new mid cmax amax (count - p) (e, before, p, s, marks, last, young, old) ≡ walkTest d (entryWord x) n m new mid cmax amax count head) × (s ≤ 4294967296 * p) × (marks ≤ 4294967296 * p) × (p ≤ count)
+Inv-loop d entries n m new mid cmax amax count head last₀ e₀ before₀ p₀ s₀ marks₀ young₀ old₀ last e before p s marks young old =
+    (walkFrom d (entryWord entries) n m new mid cmax amax (count - p) (e, before, p, s, marks, last, young, old) ≡ walkTest d (entryWord entries) n m new mid cmax amax count head) × (s ≤ 4294967296 * p) × (marks ≤ 4294967296 * p) × (p ≤ count)
 
 abbrev μ-loop : tie.MeasureT-loop
-μ-loop d x n m new mid cmax amax count head last₀ e₀ before₀ p₀ s₀ marks₀ young₀ old₀ last e before p s marks young old = count - p
+μ-loop d entries n m new mid cmax amax count head last₀ e₀ before₀ p₀ s₀ marks₀ young₀ old₀ last e before p s marks young old = count - p
 
 loop-holds : tie.Need-loop-holds Inv-loop μ-loop
 unfolding walkTest
