@@ -78,7 +78,7 @@ fn fresh_then_batches() {
     print(histories, &seen);
     corners.all_reached(50);
     // 11 needs totals that no such history reaches
-    assert!([0, 6, 7, 8, 9, 10].into_iter().all(|number| seen.numbers[number] > 100));
+    assert!((0..=10).all(|number| seen.numbers[number] > 100));
     assert!(seen.answers[1..].iter().all(|&times| times > 5_000) && seen.halved > 5_000 && seen.written_out > 5_000);
     assert!(seen.most_chains > 10);
 }
@@ -98,7 +98,7 @@ fn batches_from_built_directories() {
     }
     print(histories, &seen);
     corners.all_reached(30);
-    assert!([0, 6, 7, 8, 9, 10, 11].into_iter().all(|number| seen.numbers[number] > 100));
+    assert!((0..=11).all(|number| seen.numbers[number] > 100));
     assert!(seen.answers[1..].iter().all(|&times| times > 3_000) && seen.halved > 3_000 && seen.written_out > 3_000);
     assert_eq!(seen.most_chains, MAX_CMAX);
 }

@@ -57,7 +57,7 @@ fn histories_through_the_wrapper() {
         assert_eq!(memory.look(s.m), Err(Refusal::BadWord));
     }
     println!("calls that returned 0 to 11: {numbers:?}; {looks} looks, {answers} answers");
-    assert!([0, 6, 7, 8, 9, 10, 11].into_iter().all(|number| numbers[number] > 10));
+    assert!((0..=11).all(|number| numbers[number] > 10));
 }
 
 #[test]

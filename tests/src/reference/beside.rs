@@ -138,6 +138,15 @@ impl Beside {
         self.dir = dir;
     }
 
+    /// A fresh that is declined, over the first words of the directory: nothing changes.
+    pub fn declined_fresh(&mut self, s: Settings, length: usize, expected: u32) {
+        let before = self.dir.clone();
+        let number = (self.tested.fresh)(s, &mut self.dir[..length]);
+        assert_eq!(number, expected, "fresh over {length} words: {s:?}");
+        assert!(self.dir == before, "a declined fresh changed the directory: {s:?}");
+        self.seen.numbers[number as usize] += 1;
+    }
+
     fn run(&mut self, call: &Call, expected: u32, expected_answers: &[u32], expected_outgoing: &[u8]) -> u32 {
         let before = (self.dir.clone(), self.data.clone(), self.store.clone());
         let (mut answers, mut outgoing) = (call.answers.clone(), call.outgoing.clone());

@@ -5,7 +5,7 @@ use super::directory::{kind, word, MAX_VALUE, VALUE_BITS};
 use super::judge;
 use super::rng::Rng;
 use super::samples;
-use super::settings::{directory_length, MAX_CMAX};
+use super::settings::{directory_length, MAX_AMAX, MAX_B, MAX_CMAX, MAX_M, MAX_N};
 use super::stack::{work, MOST_TOTAL};
 use crate::Settings;
 
@@ -163,6 +163,31 @@ pub fn spoil(rng: &mut Rng, beside: &Beside, call: &mut Call) {
     }
 }
 
+/// Settings that are illegal in one respect, with their number, 1 to 4.
+pub fn illegal(rng: &mut Rng, s: Settings) -> (Settings, u32) {
+    match rng.below(8) {
+        0 => (Settings { n: rng.pick(&[0, MAX_N + 1, u32::MAX]), ..s }, 1),
+        1 => (Settings { nold: 0, ..s }, 2),
+        // a sum that 32 bits don't hold is too large as well
+        2 => (Settings { nnew: rng.pick(&[s.n - s.nold + 1, u32::MAX]), ..s }, 2),
+        3 => (Settings { cmax: rng.pick(&[0, MAX_CMAX + 1]), ..s }, 3),
+        4 => (Settings { amax: rng.pick(&[0, MAX_AMAX + 1]), ..s }, 3),
+        5 => (Settings { b: rng.pick(&[0, MAX_B + 1]), ..s }, 4),
+        _ => (Settings { m: rng.pick(&[0, MAX_M + 1]), ..s }, 4),
+    }
+}
+
+/// A fresh over the directory of a history, declined by 1 to 5.
+fn decline_fresh(rng: &mut Rng, beside: &mut Beside) {
+    let s = beside.stack.settings;
+    if rng.one_in(4) {
+        return beside.declined_fresh(s, rng.below(directory_length(s)) as usize, 5);
+    }
+    let (illegal, number) = illegal(rng, s);
+    let length = rng.below(beside.dir.len() as u64 + 1) as usize;
+    beside.declined_fresh(illegal, length, number);
+}
+
 /// Directory words with one word wrong, or cut short; not sound.
 pub fn unsound(rng: &mut Rng, dir: &[u32], s: Settings) -> Vec<u32> {
     let length = directory_length(s);
@@ -199,6 +224,9 @@ pub fn go_on(rng: &mut Rng, beside: &mut Beside, calls: usize, most: u32) {
         if s.n <= 64 && rng.one_in(10) {
             let unsound = unsound(rng, &beside.dir, s);
             beside.call_over(unsound, &call);
+        }
+        if rng.one_in(6) {
+            decline_fresh(rng, beside);
         }
         beside.call(&call);
     }

@@ -3,10 +3,17 @@ use super::{batch, batch_by_loop, look};
 use crate::reference::beside::{Seen, Tested};
 use crate::reference::directory::fresh_words;
 use crate::reference::rng::Rng;
-use crate::reference::{fast_judge, histories};
+use crate::reference::{fast_judge, histories, settings};
 use crate::Settings;
 
 fn fresh(s: Settings, dir: &mut [u32]) -> u32 {
+    let number = settings::number(s);
+    if number != 0 {
+        return number;
+    }
+    if (dir.len() as u64) < settings::directory_length(s) {
+        return 5;
+    }
     let words = fresh_words(s);
     dir[..words.len()].copy_from_slice(&words);
     0
@@ -40,5 +47,5 @@ fn random_histories() {
     }
     println!("{seen:?}");
     assert!(seen.answers[1..].iter().all(|&times| times > 500) && seen.halved > 500);
-    assert!([0, 6, 7, 8, 9, 10, 11].into_iter().all(|number| seen.numbers[number] > 20), "{seen:?}");
+    assert!((0..=11).all(|number| seen.numbers[number] > 20), "{seen:?}");
 }
