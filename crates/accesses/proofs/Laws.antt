@@ -80,10 +80,10 @@ module _ (d : List ℕ) (ok : T (sound d)) (b : ℕ) where
 
 module _ (m : Memory) (size block : ℕ) (ready : ReplacesReady m size block) (written : Bool) {k e v n : ℕ} {out : Bool} {d : List ℕ}
     (accessed : Accessed k (m .directory) block written e (replaced v n out) d) where
-  pub write-out-room : (1 ≤ e) × ((e - 1) * size + size ≤ length (m .bytes)) × (v * size + size ≤ length (m .store))
+  pub write-out-room : (size ≤ 4096) × (1 ≤ e) × ((e - 1) * size + size ≤ length (m .bytes)) × (v * size + size ≤ length (m .store))
   write-out-room =
       rw (ready .size-is)
-      (access-least m (ready .ready) block written accessed, access-entry m (ready .ready) block written accessed, victim-block m (ready .ready) block written accessed)
+      (sound-legal (m .directory) (ready .ready .is-sound) .few-bytes, access-least m (ready .ready) block written accessed, access-entry m (ready .ready) block written accessed, victim-block m (ready .ready) block written accessed)
 
   pub replaced-small : (v < 2 ^ 18) × (n ≤ 64)
   replaced-small =
@@ -138,6 +138,9 @@ hit-done m block written {n = n} {halved = halved} accessed word word-is =
 
 -- ---- bytes of the word
 
+pub size-few : (m : Memory) (s : Settings) (block : ℕ) → AccessReady m s block → s .b ≤ 4096
+size-few m s block ready = rw (ready .settings-are) (sound-legal (m .directory) (ready .ready .is-sound) .few-bytes)
+
 module _ (m : Memory) (s : Settings) (block : ℕ) (ready : AccessReady m s block) (written : Bool) (a : Asked) (d store : List ℕ) (done : AccessDone m block written a d store) where
   abbrev B : ℕ
   B = settingsOf m .b
@@ -170,8 +173,8 @@ module _ (m : Memory) (s : Settings) (block : ℕ) (ready : AccessReady m s bloc
   pub block-room : block * s .b + s .b ≤ length store
   block-room = rw (size-is, store-same) (store-room m (ready .ready) block (ready .inside))
 
-  pub bring-in-room : (1 ≤ a .entry) × ((a .entry - 1) * s .b + s .b ≤ length (m .bytes)) × (block * s .b + s .b ≤ length store)
-  bring-in-room = (entry-least, entry-room, block-room)
+  pub bring-in-room : (s .b ≤ 4096) × (1 ≤ a .entry) × ((a .entry - 1) * s .b + s .b ≤ length (m .bytes)) × (block * s .b + s .b ≤ length store)
+  bring-in-room = (size-few m s block ready, entry-least, entry-room, block-room)
 
   -- whether the block comes in is whether it wasn't resident: its entry then holds the bytes that the answer tells
   abbrev brought : List ℕ

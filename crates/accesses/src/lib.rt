@@ -36,7 +36,7 @@ fn enter(dir: &mut [u32], block: u32, written: bool) -> Asked
 
 // A modified victim's bytes go to the store.
 fn write_out(bytes: &[u8], entry: u32, store: &mut [u8], victim: u32, out: bool, size: u32)
-    requires { ⌜ (1 ≤ entry) × ((entry - 1) * size + size ≤ length (now bytes)) × (victim * size + size ≤ length (now store)) ⌝ }
+    requires { ⌜ (size ≤ 4096) × (1 ≤ entry) × ((entry - 1) * size + size ≤ length (now bytes)) × (victim * size + size ≤ length (now store)) ⌝ }
     ensures { λ _. ⌜ now (store .exit) ≡ pick out (putBlock size victim (blockAt size (entry - 1) (now (bytes .entry))) (now (store .entry))) (now (store .entry)) ⌝ }
 {
     if out {
@@ -110,7 +110,7 @@ fn access(
 
 // A block that was not resident comes in: the store's bytes go to its entry.
 fn bring_in(bytes: &mut [u8], entry: u32, store: &[u8], block: u32, resident: bool, size: u32)
-    requires { ⌜ (1 ≤ entry) × ((entry - 1) * size + size ≤ length (now bytes)) × (block * size + size ≤ length (now store)) ⌝ }
+    requires { ⌜ (size ≤ 4096) × (1 ≤ entry) × ((entry - 1) * size + size ≤ length (now bytes)) × (block * size + size ≤ length (now store)) ⌝ }
     ensures { λ _. ⌜ now (bytes .exit) ≡ pick resident (now (bytes .entry)) (putBlock size (entry - 1) (blockAt size block (now (store .entry))) (now (bytes .entry))) ⌝ }
 {
     if resident {

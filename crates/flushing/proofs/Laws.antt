@@ -44,6 +44,9 @@ module _ (m : Memory) (size e : ℕ) (r : EntryReady m size e) where
   h : Here (residentsIn (m .directory)) (r .position) e
   h = of-standing (m .directory) (r .position) e (r .standing)
 
+  pub size-few : size ≤ 4096
+  size-few = rw (r .size-is) (sound-legal (m .directory) (r .ready .is-sound) .few-bytes)
+
   pub entry-some : 1 ≤ e
   entry-some = rw (← h .entry) (resident-fit m (r .ready) (r .position) (h .here) .least)
 

@@ -1,4 +1,4 @@
-use Rattle.accesses.proofs.Laws.{bring-in-room, entry-least, brought-room, read-done}
+use Rattle.accesses.proofs.Laws.{size-few, bring-in-room, entry-least, brought-room, read-done}
 use borrow.Author.Needs.{needs}
 use Rattle.accesses.proofs.read.Statement.{statement}
 use Rattle.accesses.proofs.read.Tie as tie
@@ -18,7 +18,9 @@ sub-move-block : tie.Need-sub-move-block
 sub-move-block c = entry-least _ _ _ (c .before .before .before .before .before .before .before .before .before .before .before .before .before .before .before .before .before .before .before .pre .0) _ _ _ _ (c .before .before .before .before .before .before .before .before .before .before .before .access .ensures)
 
 move-block-requires : tie.Need-move-block-requires
-move-block-requires c κs = (brought-room _ _ _ (c .before .before .before .before .before .before .before .before .before .before .before .before .before .before .before .before .before .before .before .before .pre .0) _ _ _ _ (c .before .before .before .before .before .before .before .before .before .before .before .before .access .ensures) _ (c .before .before .before .before .before .bring-in .ensures), c .before .before .before .before .before .before .before .before .before .before .before .before .before .before .before .before .before .before .before .before .pre .1)
+move-block-requires c κs =
+    let start = c .before .before .before .before .before .before .before .before .before .before .before .before .before .before .before .before .before .before .before .before in
+    (size-few _ _ _ (start .pre .0), brought-room _ _ _ (start .pre .0) _ _ _ _ (c .before .before .before .before .before .before .before .before .before .before .before .before .access .ensures) _ (c .before .before .before .before .before .bring-in .ensures), start .pre .1)
 
 same-length : tie.Need-same-length
 same-length c = search needs

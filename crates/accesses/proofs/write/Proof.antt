@@ -1,4 +1,4 @@
-use Rattle.accesses.proofs.Laws.{entry-least, entry-room, write-done}
+use Rattle.accesses.proofs.Laws.{size-few, entry-least, entry-room, write-done}
 use borrow.Author.Needs.{needs}
 use Rattle.accesses.proofs.write.Statement.{statement}
 use Rattle.accesses.proofs.write.Tie as tie
@@ -14,7 +14,9 @@ sub-move-block : tie.Need-sub-move-block
 sub-move-block c = entry-least _ _ _ (c .before .before .before .before .before .before .before .before .before .before .before .before .before .before .pre .0) _ _ _ _ (c .before .before .before .before .before .before .access .ensures)
 
 move-block-requires : tie.Need-move-block-requires
-move-block-requires c κs = (c .before .before .before .before .before .before .before .before .before .before .before .before .before .before .pre .1, entry-room _ _ _ (c .before .before .before .before .before .before .before .before .before .before .before .before .before .before .pre .0) _ _ _ _ (c .before .before .before .before .before .before .access .ensures))
+move-block-requires c κs =
+    let start = c .before .before .before .before .before .before .before .before .before .before .before .before .before .before in
+    (size-few _ _ _ (start .pre .0), start .pre .1, entry-room _ _ _ (start .pre .0) _ _ _ _ (c .before .before .before .before .before .before .access .ensures))
 
 same-length : tie.Need-same-length
 same-length c = search needs

@@ -4,7 +4,7 @@ use Rattle.blocks.proofs.put.Statement.{statement}
 use Rattle.blocks.proofs.put.Tie as tie
 use Rattle.blocks.proofs.put.Reads as reads
 use Rattle.blocks.proofs.put.Lts as lts
-use Rattle.bytes.proofs.copy.Reads as copy-reads
+use Rattle.blocks.proofs.copy.Reads as copy-reads
 
 mul-at : tie.Need-mul-at
 mul-at c = search needs
@@ -30,7 +30,7 @@ same-length c = search needs
 returns : tie.Need-returns
 returns c =
     let a = c .before .before .before .before .before .before .args in
-    put-is _ (a .from .now) (a .to .now) (a .block) (a .size) (c .before .before .before .before .before .before .pre .0) (c .before .before .copy .ensures .1)
+    rw (c .before .before .copy .ensures) (put-is (a .from .now) (a .to .now) (a .block) (a .size))
 
 pub put-spec : {M : Type 1} → statement M
 put-spec =

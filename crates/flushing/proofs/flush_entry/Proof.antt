@@ -1,6 +1,6 @@
 use native.Mathlib.Omega.{arith}
 use borrow.Author.Needs.{needs}
-use Rattle.flushing.proofs.Laws.{entry-some, entry-room, block-room, clean-ready, passes, writes}
+use Rattle.flushing.proofs.Laws.{size-few, entry-some, entry-room, block-room, clean-ready, passes, writes}
 use Rattle.flushing.proofs.flush_entry.Statement.{statement}
 use Rattle.flushing.proofs.flush_entry.Tie as tie
 use Rattle.flushing.proofs.flush_entry.Reads as reads
@@ -22,7 +22,7 @@ sub-move-block c = entry-some _ _ _ (c .before .before .before .before .before .
 move-block-requires : tie.Need-move-block-requires
 move-block-requires c κs =
     let s = c .before .before .before .before .before .before .before .before .before in
-    (entry-room _ _ _ (s .pre), block-room _ _ _ (s .pre) _ (c .before .block-of .ensures))
+    (size-few _ _ _ (s .pre), entry-room _ _ _ (s .pre), block-room _ _ _ (s .pre) _ (c .before .block-of .ensures))
 
 clean-requires : tie.Need-clean-requires
 clean-requires c κs =
