@@ -7,7 +7,7 @@ ghost use mathlib.Core.List.{List};
 ghost use lib.Dec.{T};
 ghost use lib.ListN.{length};
 ghost use Rattle.basics.specs.Basics.{pick, blockAt, putBlock};
-ghost use Rattle.layout.specs.Sound.{sound};
+ghost use Rattle.layout.specs.Sound.{settingsIn, sound};
 ghost use Rattle.cache_steps.specs.Carried.{memory};
 ghost use Rattle.directory.specs.Ready.{EnterReady};
 ghost use Rattle.accesses.specs.Done.{AccessReady, ReplacesReady, MissesReady, AccessDone, ReadDone, WriteDone, PurgeDone};
@@ -95,7 +95,7 @@ fn access(
     requires { ⌜ AccessReady (memory (now dir) (now bytes) (now store)) s block ⌝ }
     ensures { λ r. ⌜ AccessDone (memory (now (dir .entry)) (now (bytes .entry)) (now (store .entry))) block written r (now (dir .exit)) (now (store .exit)) ⌝ }
 {
-    let Found::At(e) = directory::lookup(dir, block) else {
+    let Found::At(e) = directory::lookup(dir, block, s) else {
         return miss(dir, bytes, store, block, written, s);
     };
     let r = directory::hit(dir, e, written);
@@ -157,11 +157,11 @@ pub fn write(
 }
 
 // A purge: the resident leaves, its bytes are discarded.
-pub fn purge(dir: &mut [u32], block: u32) -> u32
-    requires { ⌜ T (sound (now dir)) ⌝ }
+pub fn purge(dir: &mut [u32], block: u32, s: Settings) -> u32
+    requires { ⌜ T (sound (now dir)) × (s ≡ settingsIn (now dir)) ⌝ }
     ensures { λ r. ⌜ PurgeDone (now (dir .entry)) block (now (dir .exit)) r ⌝ }
 {
-    let Found::At(e) = directory::lookup(dir, block) else {
+    let Found::At(e) = directory::lookup(dir, block, s) else {
         return answers::absent_word();
     };
     answers::purged_word(directory::purge(dir, e))

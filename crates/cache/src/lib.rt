@@ -64,7 +64,7 @@ fn word(
         return accesses::write(dir, bytes, store, block, incoming, passed.writes, s);
     }
     if kind == PURGE {
-        return accesses::purge(dir, block);
+        return accesses::purge(dir, block, s);
     }
     answers::flushed_word(flushing::flush(dir, bytes, store, s.b))
 }

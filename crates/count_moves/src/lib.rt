@@ -1,6 +1,9 @@
 ghost use mathlib.Core.Path.{_≡_};
 ghost use Prim.Native.Nat.{_^_, _≤_, _<_};
-ghost use Rattle.word_ops.specs.Hit.{chainLeft, countSet, chainJoined, recounted, hit};
+ghost use Rattle.words.specs.Words.{val};
+ghost use Rattle.layout.specs.Addresses.{COUNT, SECTION};
+ghost use Rattle.word_ops.specs.Lists.{wordOf};
+ghost use Rattle.word_ops.specs.Hit.{raisedCount, chainLeft, countSet, chainJoined, recounted, hit};
 
 // Takes entry e out of the chain of its count, if that has one.
 pub fn chain_leave(dir: &mut [u32], at: u32, cmax: u32, e: u32, count: u32)
@@ -57,20 +60,15 @@ pub fn recount(dir: &mut [u32], at: u32, cmax: u32, e: u32, count: u32, next: u3
     chain_join(dir, at, cmax, e, next);
 }
 
-// A hit on entry e: its count rises unless it is new, and it goes to the front of the stack and of its chain.
-pub fn hit(dir: &mut [u32], at: u32, cmax: u32, e: u32)
+// A hit on entry e: its count rises unless it is new, and it goes to the front of the stack and of its chain. The count after that.
+pub fn hit(dir: &mut [u32], at: u32, cmax: u32, e: u32) -> u32
     requires { ⌜ (at < 100000) × (cmax ≤ 64) ⌝ }
-    ensures { λ _. ⌜ now (dir .exit) ≡ hit (now (dir .entry)) at cmax e ⌝ }
+    ensures { λ r. ⌜ (r ≡ raisedCount (val (now (dir .entry)) (wordOf at e SECTION)) (val (now (dir .entry)) (wordOf at e COUNT))) × (now (dir .exit) ≡ hit (now (dir .entry)) at cmax e) ⌝ }
 {
     let section = words::get(dir, lists::word_of(at, e, layout::SECTION));
     let count = words::get(dir, lists::word_of(at, e, layout::COUNT));
+    let next = values::raised_count(section, count);
     stack_moves::to_front(dir, at, e, section);
-    recount(
-        dir,
-        at,
-        cmax,
-        e,
-        count,
-        values::raised_count(section, count),
-    );
+    recount(dir, at, cmax, e, count, next);
+    next
 }

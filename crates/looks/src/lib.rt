@@ -23,7 +23,7 @@ pub fn look<'a>(dir: &[u32], bytes: &'a [u8], store: &'a [u8], block: u32) -> &'
         return &bytes[0..0];
     }
     let s = header::settings_in(dir);
-    let Found::At(e) = directory::lookup(dir, block) else {
+    let Found::At(e) = directory::lookup(dir, block, s) else {
         return block_part(store, block, s.b);
     };
     // Entry e owns block e − 1 of data.

@@ -17,7 +17,7 @@ const SIZES: [u32; 3] = [64, 512, 4_096];
 const BLOCK_SIZES: [u32; 2] = [64, 4_096];
 const WORDS: usize = 1_024;
 const BATCHES: usize = 48;
-const ROUNDS: usize = 41;
+const ROUNDS: usize = 121;
 /// Blocks of the store for each cache block.
 const STORE_FACTOR: u32 = 4;
 

@@ -100,7 +100,7 @@ impl Plan {
         self.write_residents(&mut words);
         self.write_chains(&mut words);
         self.write_buckets(&mut words);
-        write_single(&mut words, map, header::FIRST_UNUSED, entry::TOWARDS_TAIL, &self.arrangement.unused);
+        write_unused(&mut words, map, &self.arrangement.unused);
         words
     }
 

@@ -30,7 +30,7 @@ returns : tie.Need-returns
 returns c = absent-done _ _ (c .before .before .before .lookup .ensures ∙ ap (foundResident _) (c .before .enum-told .given .1)) _ (c .absent-word .ensures)
 
 purge-requires : tie.Need-purge-requires
-purge-requires c κs = purge-ready _ _ _ (c .before .before .before .before .before .before .before .pre) (c .before .before .before .before .lookup .ensures ∙ ap (foundResident _) (c .before .before .e .given .1))
+purge-requires c κs = purge-ready _ _ _ (c .before .before .before .before .before .before .before .pre .0) (c .before .before .before .before .lookup .ensures ∙ ap (foundResident _) (c .before .before .e .given .1))
 
 purged-word-requires : tie.Need-purged-word-requires
 purged-word-requires c κs = search needs

@@ -23,12 +23,12 @@ word-of-requires-2 c κs = search needs
 get-requires-2 : tie.Need-get-requires-2
 get-requires-2 c κs = search needs
 
-to-front-requires : tie.Need-to-front-requires
-to-front-requires c κs = search needs
-
 raised-count-requires : tie.Need-raised-count-requires
 unfolding val
 raised-count-requires c κs = search needs
+
+to-front-requires : tie.Need-to-front-requires
+to-front-requires c κs = search needs
 
 recount-requires : tie.Need-recount-requires
 recount-requires c κs = search needs
@@ -39,21 +39,24 @@ same-length c = search needs
 returns : tie.Need-returns
 unfolding hit hitFrom
 returns c =
-    let p1 = c .before .before in
-    let p2 = p1 .before in
-    let p3 = p2 .before .before .before .before in
-    let p4 = p3 .before .before in
-    let p5 = p4 .before in
-    let p6 = p5 .before .before in
-    let p7 = p6 .before in
-    rw (
-      p1 .recount .ensures,
-      p3 .to-front .ensures,
-      p2 .raised-count .ensures .0,
-      p4 .get2 .ensures,
-      p5 .word-of2 .ensures,
-      p6 .get .ensures,
-      p7 .word-of .ensures,
+    let stored = c .before .before in
+    let moved = stored .before .before .before .before in
+    let next = moved .before .before in
+    let count = next .before in
+    let at-count = count .before in
+    let section = at-count .before .before in
+    let at-section = section .before in
+    let next-is = rw (count .get2 .ensures, at-count .word-of2 .ensures, section .get .ensures, at-section .word-of .ensures) at (next .raised-count .ensures .0) in (
+      next-is,
+      rw (
+        stored .recount .ensures,
+        moved .to-front .ensures,
+        next-is,
+        count .get2 .ensures,
+        at-count .word-of2 .ensures,
+        section .get .ensures,
+        at-section .word-of .ensures,
+      ),
     )
 
 pub hit-spec : {M : Type 1} → statement M
@@ -64,8 +67,8 @@ hit-spec =
     get-requires
     word-of-requires-2
     get-requires-2
-    to-front-requires
     raised-count-requires
+    to-front-requires
     recount-requires
     same-length
     returns)

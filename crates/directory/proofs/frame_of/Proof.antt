@@ -1,13 +1,11 @@
-use Rattle.settings.specs.Buckets.{buckets}
-use mathlib.Core.Path.{ap}
-use Rattle.directory.proofs.Laws.{small, limit-small, framed}
-use Rattle.directory.proofs.Laws.{small}
+use Rattle.directory.proofs.Laws.{blocks-within, chains-within, buckets-within, limit-small, framed}
 use native.Mathlib.Omega.{arith}
 use borrow.Author.Needs.{needs}
 use Rattle.directory.proofs.frame_of.Statement.{statement}
 use Rattle.directory.proofs.frame_of.Tie as tie
 use Rattle.directory.proofs.frame_of.Reads as reads
 use Rattle.directory.proofs.frame_of.Lts as lts
+use Rattle.directory.proofs.entries_from.Reads as entries-from-reads
 use Rattle.settings.proofs.buckets.Reads as buckets-reads
 use Rattle.words.proofs.value.Reads as value-reads
 
@@ -20,32 +18,35 @@ value-requires-2 c κs = search needs
 value-requires-3 : tie.Need-value-requires-3
 value-requires-3 c κs = search needs
 
-mul-t5 : tie.Need-mul-t5
-mul-t5 c = let k = small _ (c .before .before .before .before .pre) in omega (arith, c .before .value2 .ensures)
-
-add-t6 : tie.Need-add-t6
-add-t6 c = let k = small _ (c .before .before .before .before .pre) in omega (arith, c .before .value2 .ensures)
-
 buckets-requires : tie.Need-buckets-requires
-buckets-requires c κs = let k = small _ (c .before .before .before .before .pre) in (omega (arith, c .before .before .value .ensures), omega (arith, c .before .before .value .ensures))
+buckets-requires c κs = blocks-within _ (c .before .before .before .before .pre) _ _ (c .before .before .value .ensures) (c .before .value2 .ensures)
 
-add-t8 : tie.Need-add-t8
-add-t8 c = let k = small _ (c .before .before .before .before .before .pre) in omega (arith, c .before .before .before .value .ensures, c .before .before .value2 .ensures, c .buckets .ensures, ap buckets (c .before .before .before .value .ensures))
+entries-from-requires : tie.Need-entries-from-requires
+entries-from-requires c κs =
+    let start = c .before .before .before .before .before in
+    let n-is = c .before .before .before .value .ensures in
+    let cmax-is = c .before .before .value2 .ensures in
+    (chains-within _ (start .pre) _ _ n-is cmax-is, buckets-within _ (start .pre) _ _ n-is cmax-is _ (c .buckets .ensures) .1)
 
-add-t9 : tie.Need-add-t9
-add-t9 c = let k = small _ (c .before .before .before .before .before .pre) in omega (arith, c .before .before .before .value .ensures)
+add-t7 : tie.Need-add-t7
+add-t7 c =
+    let n-is = c .before .before .before .before .value .ensures in
+    let few = blocks-within _ (c .before .before .before .before .before .before .pre) _ _ n-is (c .before .before .before .value2 .ensures) in
+    omega arith
 
-cast-t10 : tie.Need-cast-t10
-cast-t10 c = search needs
+cast-t8 : tie.Need-cast-t8
+cast-t8 c = search needs
 
-cast-t11 : tie.Need-cast-t11
-cast-t11 c = search needs
+cast-t9 : tie.Need-cast-t9
+cast-t9 c = search needs
 
-mul-t12 : tie.Need-mul-t12
-mul-t12 c = omega (arith, limit-small _ _ _ (c .before .before .before .before .before .pre) (c .before .value3 .ensures) (c .before .before .before .value .ensures))
+mul-t10 : tie.Need-mul-t10
+mul-t10 c = omega (arith, limit-small _ _ _ (c .before .before .before .before .before .before .pre) (c .before .before .value3 .ensures) (c .before .before .before .before .value .ensures))
 
 returns : tie.Need-returns
-returns c = framed _ _ _ _ _ (c .before .before .before .before .before .pre) (c .before .before .before .value .ensures) (c .before .before .value2 .ensures) (c .before .value3 .ensures) (c .buckets .ensures)
+returns c =
+    let start = c .before .before .before .before .before .before in
+    framed _ (start .pre) _ _ (c .before .before .before .before .value .ensures) (c .before .before .before .value2 .ensures) _ (c .before .buckets .ensures) _ _ (c .before .before .value3 .ensures) (c .entries-from .ensures)
 
 pub frame-of-spec : {M : Type 1} → statement M
 frame-of-spec =
@@ -54,12 +55,10 @@ frame-of-spec =
     value-requires
     value-requires-2
     value-requires-3
-    mul-t5
-    add-t6
     buckets-requires
-    add-t8
-    add-t9
-    cast-t10
-    cast-t11
-    mul-t12
+    entries-from-requires
+    add-t7
+    cast-t8
+    cast-t9
+    mul-t10
     returns)

@@ -20,7 +20,12 @@ same-length : tie.Need-same-length
 same-length c = search needs
 
 returns : tie.Need-returns
-returns c = rw (c .before .before .mark .ensures, c .before .before .before .before .before .before .hit .ensures, c .before .before .before .before .before .before .before .before .before .before .access-count .ensures)
+returns c =
+    let marked = c .before .before in
+    let moved = c .before .before .before .before .before .before in
+    let counted = c .before .before .before .before .before .before .before .before .before .before in
+    let counted-is = counted .access-count .ensures in
+    (rw counted-is at (moved .hit .ensures .0), rw (marked .mark .ensures, moved .hit .ensures .1, counted-is))
 
 pub hit-entry-spec : {M : Type 1} → statement M
 hit-entry-spec =

@@ -1,30 +1,51 @@
+use Rattle.directory.proofs.Laws.{blocks-read, chains-read, blocks-within, chains-within, buckets-within, entries-of, bucket-of}
 use Rattle.operations.specs.Reads.{lookup-found}
 use borrow.Author.Needs.{needs}
 use Rattle.directory.proofs.lookup.Statement.{statement}
 use Rattle.directory.proofs.lookup.Tie as tie
 use Rattle.directory.proofs.lookup.Reads as reads
 use Rattle.directory.proofs.lookup.Lts as lts
-use Rattle.directory.proofs.bucket_at.Reads as bucket-at-reads
-use Rattle.directory.proofs.entries_at.Reads as entries-at-reads
+use Rattle.directory.proofs.bucket_among.Reads as bucket-among-reads
+use Rattle.directory.proofs.entries_from.Reads as entries-from-reads
 use Rattle.search.proofs.find.Reads as find-reads
-use Rattle.words.proofs.value.Reads as value-reads
+use Rattle.settings.proofs.buckets.Reads as buckets-reads
 
-value-requires : tie.Need-value-requires
-value-requires c κs = search needs
+buckets-requires : tie.Need-buckets-requires
+buckets-requires c κs =
+    let start = c .before in
+    let n-is = blocks-read _ _ (start .pre .1) in
+    let cmax-is = chains-read _ _ (start .pre .1) in
+    blocks-within _ (start .pre .0) _ _ n-is cmax-is
 
-entries-at-requires : tie.Need-entries-at-requires
-entries-at-requires c κs = search needs
+entries-from-requires : tie.Need-entries-from-requires
+entries-from-requires c κs =
+    let start = c .before .before in
+    let n-is = blocks-read _ _ (start .pre .1) in
+    let cmax-is = chains-read _ _ (start .pre .1) in
+    (chains-within _ (start .pre .0) _ _ n-is cmax-is, buckets-within _ (start .pre .0) _ _ n-is cmax-is _ (c .buckets .ensures) .1)
 
-bucket-at-requires : tie.Need-bucket-at-requires
-bucket-at-requires c κs = search needs
+bucket-among-requires : tie.Need-bucket-among-requires
+bucket-among-requires c κs =
+    let start = c .before .before .before in
+    let n-is = blocks-read _ _ (start .pre .1) in
+    let cmax-is = chains-read _ _ (start .pre .1) in
+    let some = buckets-within _ (start .pre .0) _ _ n-is cmax-is _ (c .before .buckets .ensures) in
+    (chains-within _ (start .pre .0) _ _ n-is cmax-is, some .0, some .1)
 
 find-requires : tie.Need-find-requires
 find-requires c κs = search needs
 
 returns : tie.Need-returns
-returns c = rw (c .find .ensures, c .before .before .before .value .ensures, c .before .before .entries-at .ensures, c .before .bucket-at .ensures) (lookup-found _ (c .before .before .before .before .before .pre) _)
+returns c =
+    let start = c .before .before .before .before .before in
+    let n-is = blocks-read _ _ (start .pre .1) in
+    let cmax-is = chains-read _ _ (start .pre .1) in
+    let buckets-are = c .before .before .before .buckets .ensures in
+    let at-is = entries-of _ (start .pre .0) _ _ n-is cmax-is _ buckets-are _ (c .before .before .entries-from .ensures) in
+    let bucket-is = bucket-of _ (start .pre .0) _ _ n-is cmax-is _ buckets-are _ _ (c .before .bucket-among .ensures) in
+    rw (c .find .ensures, n-is, at-is, bucket-is) (lookup-found _ (start .pre .0) _)
 
 pub lookup-spec : {M : Type 1} → statement M
 lookup-spec =
     tie.close
-    (tie.spec value-requires entries-at-requires bucket-at-requires find-requires returns)
+    (tie.spec buckets-requires entries-from-requires bucket-among-requires find-requires returns)

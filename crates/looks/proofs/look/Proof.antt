@@ -22,7 +22,7 @@ settings-in-requires : tie.Need-settings-in-requires
 settings-in-requires c κs = search needs
 
 lookup-requires : tie.Need-lookup-requires
-lookup-requires c κs = let k = c .before in is-sound _ _ _ _ _ (k .before .look-number .ensures) (k .if1 .left)
+lookup-requires c κs = let k = c .before in (is-sound _ _ _ _ _ (k .before .look-number .ensures) (k .if1 .left), c .settings-in .ensures)
 
 enum-known-e : tie.Need-enum-known-e
 enum-known-e c = search needs
