@@ -23,7 +23,7 @@ fn copy(from: &[u8], to: &mut [u8])
 }
 
 // The bytes `from` become a block of `to`; its other bytes stay.
-pub fn put(block: u32, size: u32, from: &[u8], to: &mut [u8])
+fn put(block: u32, size: u32, from: &[u8], to: &mut [u8])
     requires { ⌜ (size ≤ 4096) × (length (now from) ≡ size) × (block * size + size ≤ length (now to)) ⌝ }
     ensures { λ _. ⌜ now (to .exit) ≡ putBlock size block (now (from .entry)) (now (to .entry)) ⌝ }
 {

@@ -10,7 +10,7 @@ use std::time::Instant;
 const SIZES: [u32; 3] = [64, 512, 4_096];
 /// Entries of all directories of a size: so many directories that no check profits from having learnt them.
 const ENTRIES: usize = 1 << 15;
-const ROUNDS: usize = 15;
+const ROUNDS: usize = 31;
 /// Entries checked in a round, whatever the size.
 const ENTRIES_A_ROUND: usize = 1 << 20;
 
