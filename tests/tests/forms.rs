@@ -80,7 +80,9 @@ fn multiply_that_wraps_on_purpose() {
     let multiply = function(&fnv, "pub fn wrapping_mul(a: u32, b: u32) -> u32");
     assert!(multiply.contains("(a as u64) * (b as u64) % 4294967296"));
     assert!(function(&fnv, "fn step(").contains("wrapping_mul("));
-    assert!(source("directory/src/lib.rt").contains("fnv::hash(block) % settings::buckets(n)"));
+    let directory = source("directory/src/lib.rt");
+    assert!(function(&directory, "fn bucket_among(").contains("fnv::hash(block) % buckets"));
+    assert!(function(&directory, "pub fn lookup(").contains("bucket_among("));
 }
 
 #[test]
