@@ -167,6 +167,7 @@ fn crowded_buckets() {
             let call = histories::call_of(&mut rng, &beside, words);
             assert_eq!(beside.call(&call), 0);
         }
+        beside.look_at_every_block();
         seen.add(&beside.seen);
     }
     print(histories, &seen);
@@ -213,6 +214,7 @@ fn totals_on_and_beside_the_limit_of_11() {
                 let call = histories::call_of(&mut rng, &beside, vec![word(work::PURGE, 0); length as usize]);
                 assert_eq!(beside.call(&call), number);
             }
+            beside.look_at_every_block();
             seen.add(&beside.seen);
         }
     }
@@ -242,6 +244,7 @@ fn totals_above_the_limit() {
             assert_eq!(beside.call(&call), number);
             cases += 1;
         }
+        beside.look_at_every_block();
     }
     println!("{cases} calls above the limit");
 }
@@ -268,6 +271,7 @@ fn high_counts() {
         let call = histories::call_of(&mut rng, &beside, hits);
         assert_eq!(beside.call(&call), 0);
         at_most += u32::from(before && held(&beside));
+        beside.look_at_every_block();
         halved += beside.seen.halved;
         cases += 1;
     }

@@ -11,9 +11,6 @@ pub type Batch = fn(&mut [u32], &mut [u8], &mut [u8], &[u32], &[u8], &mut [u32],
 /// A look at a block over directory, data and store: its present bytes to the front of a buffer; how many they are.
 pub type Look = fn(&mut [u32], &mut [u8], &mut [u8], u32, &mut [u8]) -> usize;
 
-/// Blocks × cache blocks up to which every block is looked at; a look costs a check of the directory.
-const MOST_LOOKED: u64 = 1 << 26;
-
 /// The functions under test.
 #[derive(Clone, Copy)]
 pub struct Tested {
@@ -184,17 +181,14 @@ impl Beside {
         0
     }
 
-    /// A look at every block gives the plain stack's present bytes and changes nothing. Of a store too large for that, at
-    /// every resident and at each 64th block.
+    /// A look at every block gives the plain stack's present bytes and changes nothing.
     pub fn look_at_every_block(&mut self) {
         let before = (self.dir.clone(), self.data.clone(), self.store.clone());
-        let Settings { n, b, m, .. } = self.stack.settings;
+        let Settings { b, m, .. } = self.stack.settings;
         let mut present: Vec<&[u8]> = self.stack.store.chunks_exact(b as usize).take(m as usize).collect();
         self.stack.residents.iter().for_each(|held| present[held.block as usize] = &held.bytes);
-        let every = u64::from(n) * u64::from(m) <= MOST_LOOKED;
-        let resident = |block: u32| self.stack.residents.iter().any(|held| held.block == block);
         let mut out = vec![0; b as usize];
-        for block in (0..m).filter(|&block| every || block % 64 == 0 || resident(block)) {
+        for block in 0..m {
             let length = (self.tested.look)(&mut self.dir, &mut self.data, &mut self.store, block, &mut out);
             assert_eq!(length, out.len(), "a look at block {block}: {:?}", self.stack.settings);
             assert!(out == present[block as usize], "the present bytes of block {block}: {:?}", self.stack.settings);
