@@ -9,6 +9,7 @@ fn main() {
         std::env::var("FBR_ARCHIVE_DIR").map(PathBuf::from).unwrap_or_else(|_| here.join("../target/staticlib"));
     println!("cargo:rerun-if-env-changed=FBR_ARCHIVE_DIR");
     println!("cargo:rerun-if-changed={}", archives.join("libffi.a").display());
+    println!("cargo:rustc-env=FBR_ARCHIVE={}", archives.join("libffi.a").display());
     println!("cargo:rustc-link-lib=static=ffi");
     println!("cargo:rustc-link-search=native={}", archives.display());
     check_in_c(&here);

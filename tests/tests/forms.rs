@@ -142,3 +142,10 @@ fn entry_points_have_no_requires() {
         assert!(head.contains("ensures") && !head.contains("requires"), "{head}");
     }
 }
+
+/// What `blocks::copy` goes its way for. Only speed hangs on it.
+#[test]
+fn blocks_are_moved_by_memmove() {
+    let archive = fs::read(env!("FBR_ARCHIVE")).unwrap();
+    assert!(archive.windows(7).any(|name| name == b"memmove"), "the back end left the copy a loop");
+}
