@@ -1,4 +1,4 @@
-//! Sound directories and damaged ones, each judged by the library and by both judges of the reference.
+//! Sound directories and damaged ones, each judged by the library, by both judges of the reference and by the check in C.
 pub mod links;
 pub mod plans;
 pub mod regions;
