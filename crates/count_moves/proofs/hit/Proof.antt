@@ -1,5 +1,6 @@
+use mathlib.Core.Path.{ap, ap₂, _∙_}
 use borrow.Author.Needs.{needs}
-use Rattle.word_ops.specs.Hit.{hit, hitFrom}
+use Rattle.word_ops.specs.Hit.{raisedCount, hit, hitFrom}
 use Rattle.words.specs.Words.{val}
 use Rattle.count_moves.proofs.hit.Statement.{statement}
 use Rattle.count_moves.proofs.hit.Tie as tie
@@ -46,16 +47,16 @@ returns c =
     let at-count = count .before in
     let section = at-count .before .before in
     let at-section = section .before in
-    let next-is = rw (count .get2 .ensures, at-count .word-of2 .ensures, section .get .ensures, at-section .word-of .ensures) at (next .raised-count .ensures .0) in (
+    let section-is = section .get .ensures ∙ ap (val _) (at-section .word-of .ensures) in
+    let count-is = count .get2 .ensures ∙ ap (val _) (at-count .word-of2 .ensures) in
+    let next-is = next .raised-count .ensures .0 ∙ ap₂ raisedCount section-is count-is in (
       next-is,
       rw (
         stored .recount .ensures,
         moved .to-front .ensures,
         next-is,
-        count .get2 .ensures,
-        at-count .word-of2 .ensures,
-        section .get .ensures,
-        at-section .word-of .ensures,
+        section-is,
+        count-is,
       ),
     )
 

@@ -1,5 +1,4 @@
-use Rattle.directory.proofs.Laws.{blocks-read, chains-read, blocks-within, chains-within, buckets-within, entries-of, bucket-of}
-use Rattle.operations.specs.Reads.{lookup-found}
+use Rattle.directory.proofs.Laws.{blocks-read, chains-read, blocks-within, chains-within, buckets-within, entries-of, bucket-of, found-is}
 use borrow.Author.Needs.{needs}
 use Rattle.directory.proofs.lookup.Statement.{statement}
 use Rattle.directory.proofs.lookup.Tie as tie
@@ -43,7 +42,7 @@ returns c =
     let buckets-are = c .before .before .before .buckets .ensures in
     let at-is = entries-of _ (start .pre .0) _ _ n-is cmax-is _ buckets-are _ (c .before .before .entries-from .ensures) in
     let bucket-is = bucket-of _ (start .pre .0) _ _ n-is cmax-is _ buckets-are _ _ (c .before .bucket-among .ensures) in
-    rw (c .find .ensures, n-is, at-is, bucket-is) (lookup-found _ (start .pre .0) _)
+    found-is _ (start .args .s .n) _ _ _ _ (start .pre .0) n-is at-is bucket-is (c .find .ensures)
 
 pub lookup-spec : {M : Type 1} → statement M
 lookup-spec =
