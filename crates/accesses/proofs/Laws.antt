@@ -25,7 +25,7 @@ use Rattle.cache_steps.specs.FrontLaws.{put-own}
 use Rattle.cache_steps.specs.Places.{placed-in, store-room}
 use Rattle.cache_steps.specs.AccessSteps.{access-least, access-entry, access-carried, victim-below, victim-block}
 use Rattle.cache_steps.specs.PurgeStep.{purge-carried, absent-carried}
-use Rattle.directory.specs.Ready.{HitReady, MissReady, EnterReady, PurgeReady}
+use Rattle.promises.specs.DirectoryReady.{HitReady, MissReady, EnterReady, PurgeReady}
 use Rattle.accesses.specs.declared.Asked.{Asked}
 use Rattle.accesses.specs.Done.{AccessReady, MissesReady, ReplacesReady, isHit, AccessDone, ReadDone, WriteDone, PurgeDone}
 
@@ -252,7 +252,7 @@ pub purge-ready : (d : List ℕ) (block e : ℕ) → T (sound d) → lookup bloc
 purge-ready d block e ok here = record { is-sound = ok; resident = record { block = block; here = here } }
 
 pub purge-done : (d : List ℕ) (block e : ℕ) (r : Bool) (after : List ℕ) → lookup block (residentsIn d) ≡ some (residentAt d e)
-    → ((b : ℕ) → lookup b (residentsIn d) ≡ some (residentAt d e) → (residentAt d e .modified ≡ r) × Purged 15 d b r after)
+    → ((b : ℕ) → lookup b (residentsIn d) ≡ some (residentAt d e) → (residentAt d e .modified ≡ r) × Purged 15 d b after)
     → (word : ℕ) → word ≡ answerWord (purged r) → PurgeDone d block after word
 purge-done d block e r after here gone word word-is =
     record {

@@ -14,7 +14,7 @@ use Rattle.promises.specs.DirectoryPromises.{Accessed}
 use Rattle.promises.specs.Demand3.{Memory}
 use Rattle.cache_steps.specs.Carried.{settingsOf, memory, Ready, Carried}
 use Rattle.cache_steps.specs.Told.{storeAfter}
-use Rattle.directory.specs.Ready.{Countable, ReplaceReady}
+use Rattle.promises.specs.DirectoryReady.{Countable, ReplaceReady}
 use Rattle.accesses.specs.declared.Asked.{Asked}
 
 -- ---- before

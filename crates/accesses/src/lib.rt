@@ -9,7 +9,7 @@ ghost use lib.ListN.{length};
 ghost use Rattle.basics.specs.Basics.{pick, blockAt, putBlock};
 ghost use Rattle.layout.specs.Sound.{settingsIn, sound};
 ghost use Rattle.cache_steps.specs.Carried.{memory};
-ghost use Rattle.directory.specs.Ready.{EnterReady};
+ghost use Rattle.promises.specs.DirectoryReady.{EnterReady};
 ghost use Rattle.accesses.specs.Done.{AccessReady, ReplacesReady, MissesReady, AccessDone, ReadDone, WriteDone, PurgeDone};
 
 // Where the block is after a read or a write, its answer word, and whether it was resident before.

@@ -9,7 +9,7 @@ use Rattle.basics.specs.WriteLaws.{write-step, write-end, write-length}
 use Rattle.promises.specs.Promises.{over}
 use Rattle.belt.specs.Belt.{wordsOf, inputWords, incomingBytes}
 use Rattle.belt.specs.declared.Outcome.{Outcome}
-use Rattle.belt.specs.Cycles.{Cycled}
+use Rattle.belt.specs.Cycles.{Left, Cycled}
 use Rattle.belt.specs.BeltLaws.{length-input, input-at, length-incoming, incoming-at}
 
 -- ---- words
@@ -97,5 +97,5 @@ front-is words before work n e l = rw e (take-at words (drop (length words) befo
 pub front-long : (words before work : List ℕ) (n : ℕ) → work ≡ over words before → n ≡ length words → n ≡ length (take n work)
 front-long words before work n e l = l ∙ ap length (sym (front-is words before work n e l))
 
-pub cycled-front : (words before work : List ℕ) (n : ℕ) (answers after : List ℕ) (c : Outcome) → work ≡ over words before → n ≡ length words → Cycled (take n work) answers c after → Cycled words answers c after
-cycled-front words before work n answers after c e l = subst (λ ws. Cycled ws answers c after) (front-is words before work n e l)
+pub cycled-front : (words before work : List ℕ) (n : ℕ) (answers outgoing : List ℕ) (after : Left) (c : Outcome) → work ≡ over words before → n ≡ length words → Cycled (take n work) answers outgoing c after → Cycled words answers outgoing c after
+cycled-front words before work n answers outgoing after c e l = subst (λ ws. Cycled ws answers outgoing c after) (front-is words before work n e l)

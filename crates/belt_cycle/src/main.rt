@@ -31,7 +31,9 @@ fn print_refusal(number: u32) {
 // The cycle of an input, printed.
 fn report(input: &[u8]) {
     let mut answers = [0u32; 1025];
-    let o = belt::cycle(input, &mut answers);
+    let mut store = [0u8; 512];
+    let mut outgoing = [0u8; 8192];
+    let o = belt::cycle(input, &mut answers, &mut store, &mut outgoing);
     if o.number != 0 {
         print_refusal(o.number);
         return;

@@ -13,7 +13,7 @@ use Rattle.promises.specs.Demand3.{Memory}
 use Rattle.cache_steps.specs.Carried.{settingsOf, Ready, Carried}
 use Rattle.cache_steps.specs.Runs.{Chain}
 use Rattle.cache_steps.specs.Accepts.{memoryIn}
-use Rattle.directory.specs.Ready.{Countable}
+use Rattle.promises.specs.DirectoryReady.{Countable}
 use Rattle.cache.specs.declared.Passed.{Passed}
 
 -- ---- one word

@@ -16,7 +16,7 @@ use Rattle.promises.specs.Promises.{over, Slices, behind, callOf, halved, Accep
 use Rattle.promises.specs.Demand3.{Memory}
 use Rattle.cache_steps.specs.BatchFacts.{allowed, work-bounded}
 use Rattle.cache_steps.specs.Carried.{memory, Ready}
-use Rattle.cache_steps.specs.Runs.{Chain, AllCarried, chain-ready, all-carried}
+use Rattle.cache_steps.specs.Runs.{Chain, AllCarried, chain-ready, none-carried, all-carried}
 
 -- the memory among a batch's slices
 abbrev pub memoryIn : Slices → Memory
@@ -43,6 +43,14 @@ module _ (words incoming : List ℕ) (before after : Slices) {answers : List Ans
       let valid : howMany isInvalid (map (work s) (w ∷ [])) ≡ 0 = subst (λ ws. howMany isInvalid (map (work s) ws) ≡ 0) e (allowed s (totalsIn (before .directory)) (callOf words incoming before) number .valid) in
       done .links-few (work s w) (ap (map (work s)) e) (work-bounded s w kind (omega arith)) calm
 
+  empty-batch : after .answers ≡ over (map answerWord answers) (before .answers) → after .outgoing ≡ over given (before .outgoing) → words ≡ [] → after ≡ before
+  empty-batch told gave e =
+      let (was, no-answers, none-given) = none-carried chain (ap (map (work s)) e) in
+      let same : memoryIn after ≡ memoryIn before = sym was in
+      let told′ : after .answers ≡ before .answers = told ∙ ap (λ l. over (map answerWord l) (before .answers)) no-answers in
+      let gave′ : after .outgoing ≡ before .outgoing = gave ∙ ap (λ l. over l (before .outgoing)) none-given in
+      λ i. record { directory = same i .directory; bytes = same i .bytes; store = same i .store; answers = told′ i; outgoing = gave′ i }
+
   pub accepted : after .answers ≡ over (map answerWord answers) (before .answers) → after .outgoing ≡ over given (before .outgoing)
       → (picked : List (Work × ℕ)) × Accepted words incoming before after picked
   accepted told gave = (
@@ -57,6 +65,7 @@ module _ (words incoming : List ℕ) (before after : Slices) {answers : List Ans
       words-past = done .words-past;
       bytes-past = done .bytes-past;
       store-past = done .store-past;
+      empty-batch = empty-batch told gave;
       links = λ w e kind calm. links w e kind (subst (λ r. All (λ a. T (not (halved a))) (r .answers)) ran-is calm);
     },
   )

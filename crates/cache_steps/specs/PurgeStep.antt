@@ -32,7 +32,7 @@ module _ (m : Memory) (ready : Ready m) (b : ℕ) (incoming : List ℕ) where
   unfolding entryStep step filled view
   looked-up at = ap purgedWith at
 
-  pub purge-carried : {k : ℕ} {modified : Bool} {d : List ℕ} {x : Resident ℕ} → Purged k (m .directory) b modified d
+  pub purge-carried : {k : ℕ} {modified : Bool} {d : List ℕ} {x : Resident ℕ} → Purged k (m .directory) b d
       → lookup b (residentsIn (m .directory)) ≡ some x → x .modified ≡ modified → k ≤ 20
       → Carried m (purge b) incoming (memory d (m .bytes) (m .store)) (purged modified) []
   unfolding purging view

@@ -72,10 +72,11 @@ pub chain-ready : {B : ℕ} {m m₁ : Memory} {ws : List Work} {incoming : List 
 chain-ready end r = r
 chain-ready (next c rest) r = chain-ready rest (c .ready)
 
--- no words leave what was there
-none-changed : {B : ℕ} {m m₁ : Memory} {ws : List Work} {incoming : List ℕ} {answers : List Answer} {given : List ℕ} → Chain B m ws incoming m₁ answers given → ws ≡ [] → m ≡ m₁
-none-changed end e = refl
-none-changed (next c rest) e = let z : _≡_ {A = ℕ} 0 1 = cc in absurd (omega arith)
+-- no words leave what was there, answer nothing and give nothing
+pub none-carried : {B : ℕ} {m m₁ : Memory} {ws : List Work} {incoming : List ℕ} {answers : List Answer} {given : List ℕ} → Chain B m ws incoming m₁ answers given
+    → ws ≡ [] → (m ≡ m₁) × (answers ≡ []) × (given ≡ [])
+none-carried end e = (refl, refl, refl)
+none-carried (next c rest) e = let z : _≡_ {A = ℕ} 0 1 = cc in absurd (omega arith)
 
 pub chain-answers : {B : ℕ} {m m₁ : Memory} {ws : List Work} {incoming : List ℕ} {answers : List Answer} {given : List ℕ} → Chain B m ws incoming m₁ answers given → length answers ≡ length ws
 chain-answers end = refl
@@ -131,4 +132,4 @@ all-carried end =
       store-same = refl;
       links-few = λ w e bound calm. let z : _≡_ {A = ℕ} 0 1 = cc in absurd (omega arith);
     }
-all-carried {B} {incoming = incoming} (next c rest) = all-next B incoming c (none-changed rest) (all-carried rest)
+all-carried {B} {incoming = incoming} (next c rest) = all-next B incoming c (λ e. none-carried rest e .0) (all-carried rest)

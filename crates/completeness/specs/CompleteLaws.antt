@@ -1,6 +1,6 @@
 -- Nothing is left out: from what two sound directories have in common to their fields, and from these to every word. Assumes nothing.
 use Prim.Native.Nat.{ℕ, suc, _+_, _-_, _*_, _≤_, _<_}
-use mathlib.Core.Path.{_≡_, refl, _∙_, sym, ap}
+use mathlib.Core.Path.{_≡_, refl, _∙_, sym, ap, subst}
 use mathlib.Core.Logic.{⊎-elim}
 use mathlib.Core.List.{List, [], _∷_, map}
 use native.Mathlib.Omega.{arith}
@@ -133,7 +133,7 @@ module _ (u w : List ℕ) (h : T (sound u)) (t : T (sound w)) (a : Alike u w) wh
   view-u = rw same-shape at (U .view)
 
   linked-u : WellLinked (shape w) (fields u) (order w) (unusedEntries w)
-  linked-u = rw (same-shape, same-order, a .unused) at (linked-is u U)
+  linked-u = subst (WellLinked (shape w) (fields u) (order w)) (a .orders .unused) (rw (same-shape, same-order) at (linked-is u U))
 
   linked-w : WellLinked (shape w) (fields w) (order w) (unusedEntries w)
   linked-w = linked-is w W
@@ -191,7 +191,7 @@ module _ (u w : List ℕ) (h : T (sound u)) (t : T (sound w)) (a : Alike u w) wh
         counts = same-by 1 (order w) o b (λ e z l q. across 1 e (omega arith) z (count-one e q)) alike-residents;
         marks = same-by 3 (order w) o b mark-at alike-residents;
         lists = λ b. walk w NEXT-SYNONYM (val w (bucketWord (settingsIn w) b));
-        here = λ b l. rw (← a .synonyms b l) (bucket-walk u U b (rw n-is l));
+        here = λ b l. rw (← a .orders .synonyms b l) (bucket-walk u U b (rw n-is l));
         there = bucket-walk w W;
       }
 

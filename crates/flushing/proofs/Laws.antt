@@ -10,9 +10,9 @@ use Rattle.basics.specs.Basics.{blockAt, putBlock}
 use Rattle.stack.specs.Recency.{Resident}
 use Rattle.layout.specs.Sound.{residentAt, residentsIn}
 use Rattle.layout.specs.SoundLaws.{sound-legal, sound-residents}
-use Rattle.promises.specs.DirectoryPromises.{Cleaned, entryAt}
+use Rattle.promises.specs.DirectoryPromises.{Cleaned, entryAt, NextOf}
 use Rattle.promises.specs.Demand3.{Memory}
-use Rattle.directory.specs.Ready.{CleanReady}
+use Rattle.promises.specs.DirectoryReady.{CleanReady}
 use Rattle.cache_steps.specs.Carried.{settingsOf, memory, Ready}
 use Rattle.cache_steps.specs.Places.{at-entry, resident-fit, resident-entry, resident-block}
 use Rattle.cache_steps.specs.FlushLists.{passed}
@@ -116,10 +116,8 @@ module _ (start : Memory) (ready : Ready start) (p : ℕ) (m : Memory) (n : ℕ)
           standing = standing;
         }
 
-    pub behind-is : (behind : ℕ)
-        → ((q : ℕ) → q < length (residentsIn (m .directory)) → entryAt (residentsIn (m .directory)) q ≡ e → behind ≡ entryAt (residentsIn (m .directory)) (q + 1))
-        → behind ≡ entryAt (residentsIn (start .directory)) (p + 1)
-    behind-is behind next = next p (standing .inside) (standing .entry) ∙ entries-stay (p + 1)
+    pub behind-is : (behind : ℕ) → NextOf (m .directory) e behind → behind ≡ entryAt (residentsIn (start .directory)) (p + 1)
+    behind-is behind next = next .along-stack p (standing .inside) (standing .entry) ∙ entries-stay (p + 1)
 
 -- no more than 4096 residents
 pub residents-few : (m : Memory) → Ready m → length (residentsIn (m .directory)) ≤ 4096

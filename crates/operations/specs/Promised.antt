@@ -224,7 +224,7 @@ module _ (w : List ℕ) (h : T (sound w)) where
   unfolding removed
   few-removed block = let a = fewer l (position block l) in let b = kept .sums in omega arith
 
-  pub purge-purged : (block e : ℕ) → lookup block l ≡ some (residentAt w e) → Purged 15 w block (eqb (val w (wordOf (base s) e MODIFIED)) 1) (purgeWords block e)
+  pub purge-purged : (block e : ℕ) → lookup block l ≡ some (residentAt w e) → Purged 15 w block (purgeWords block e)
   purge-purged block e look =
       let here = found-of block e look in
       let a = read-off w h (purgeWords block e) (removed block l) (totalsIn w) (purge-word t s of w l (totalsIn w) g block (s .N) e (omega arith) here) (few-removed block) in

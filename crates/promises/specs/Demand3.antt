@@ -2,6 +2,7 @@
 -- alone, beside the plain stack over the same list. Statements only.
 use Prim.Native.Nat.{ℕ, _*_, _/_, _^_, _≤_, _<_}
 use mathlib.Core.Path.{_≡_}
+use mathlib.Core.Logic.{_≢_}
 use mathlib.Core.Bool.{not}
 use mathlib.Core.List.{List, [], _∷_, _++_, map}
 use lib.ListN.{length, take, drop}
@@ -111,7 +112,9 @@ Demand3 =
     → Linked (record { directory = directory; bytes = bytes; store = store }) cs ts
     → Follows (drop (s .m * s .b) store) (record { directory = directory; bytes = bytes; store = store }) (starts s store) cs ts
 
--- and the link bound, from every sound directory: a batch of one read, write or purge that doesn't halve the counts
+-- ---- the link bound
+
+-- from every sound directory: a batch of one read, write or purge that doesn't halve the counts
 abbrev pub LinkBound : Type 0
 LinkBound =
     (w : ℕ) (incoming : List ℕ) (before : Slices) (n : ℕ) (after : Slices)
@@ -120,3 +123,21 @@ LinkBound =
     → w / 2 ^ 28 < 4
     → All (λ a. T (not (halved a))) (batch (plain (behind before)) (callOf (w ∷ []) incoming before) .ran .answers)
     → linksChanged (before .directory) (after .directory) ≤ 20
+
+-- ---- when a directory is past fresh
+
+-- Calls that carried out no word: declined batches and empty ones.
+pub data Idle : List Lending → List (ℕ × Slices) → Type 0 where
+  end : Idle [] []
+  refused : {c : Lending} {cs : List Lending} {n : ℕ} {after : Slices} {ts : List (ℕ × Slices)} → n ≢ 0 → Idle cs ts → Idle (c ∷ cs) ((n, after) ∷ ts)
+  wordless : {c : Lending} {cs : List Lending} {n : ℕ} {after : Slices} {ts : List (ℕ × Slices)} → c .words ≡ [] → Idle cs ts → Idle (c ∷ cs) ((n, after) ∷ ts)
+
+-- the memory after a list of calls
+abbrev pub memoryLeft : Memory → List Lending → List (ℕ × Slices) → Memory
+memoryLeft m [] ts = m
+memoryLeft m (c ∷ cs) [] = m
+memoryLeft m (c ∷ cs) ((n, after) ∷ ts) = memoryLeft (leaves m c after) cs ts
+
+-- Until a word is carried out every word and byte stays, the unused list's rising order too.
+abbrev pub StillFresh : Type 0
+StillFresh = (m : Memory) (cs : List Lending) (ts : List (ℕ × Slices)) → Linked m cs ts → Idle cs ts → memoryLeft m cs ts ≡ m

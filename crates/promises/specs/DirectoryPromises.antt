@@ -2,12 +2,12 @@
 -- alone. Every promise gives the residents with their entries, read off along the stack links, by the recency stack's definitions;
 -- settings, totals and the words past the directory; that the words are sound again; and how many link words changed at most.
 -- Statements only.
-use Prim.Native.Nat.{ℕ, _+_, _≤_}
+use Prim.Native.Nat.{ℕ, _+_, _≤_, _<_}
 use mathlib.Core.Path.{_≡_}
 use mathlib.Core.Bool.{Bool, not}
 use mathlib.Core.Option.{Option, none, some}
 use mathlib.Core.List.{List, map}
-use lib.ListN.{drop, getD}
+use lib.ListN.{length, drop, getD}
 use lib.Dec.{T, eqb}
 use Rattle.basics.specs.Basics.{if_then_else_}
 use Rattle.words.specs.Links.{linksChanged}
@@ -16,7 +16,8 @@ use Rattle.stack.specs.Counts.{chains, exceeds}
 use Rattle.stack.specs.Recency.{Resident, Place, counts, cleaned, place, asked, settled, removed}
 use Rattle.stack.specs.Stack.{Totals, Answer, accessTotals, answering}
 use Rattle.stack.specs.Entries.{entryFor, PickAt}
-use Rattle.layout.specs.Sound.{settingsIn, totalsIn, sound, residentAt, residentsIn}
+use Rattle.layout.specs.Addresses.{TO-TAIL}
+use Rattle.layout.specs.Sound.{settingsIn, totalsIn, field, sound, residentAt, residentsIn}
 use Rattle.layout.specs.declared.Found.{Found}
 use Rattle.layout.specs.declared.Found.the-variants.{At, Absent}
 use Rattle.promises.specs.Promises.{halved}
@@ -59,7 +60,7 @@ pub record Accessed (links : ℕ) (before : List ℕ) (block : ℕ) (written : B
 
 -- ---- a purge
 
-pub record Purged (links : ℕ) (before : List ℕ) (block : ℕ) (modified : Bool) (after : List ℕ) : Type 0 where
+pub record Purged (links : ℕ) (before : List ℕ) (block : ℕ) (after : List ℕ) : Type 0 where
   pub kept : Kept before after
   pub residents : residentsIn after ≡ removed block (residentsIn before)
   pub totals : totalsIn after ≡ totalsIn before
@@ -83,3 +84,9 @@ pub record Cleaned (before : List ℕ) (entry : ℕ) (after : List ℕ) : Type 0
 -- the entry of the resident at a position, 0 where there is none
 abbrev pub entryAt : List (Resident ℕ) → ℕ → ℕ
 entryAt l p = getD (map (λ x. x .held) l) p 0
+
+-- What `next` gives for entry e, whatever e is: its stack-towards-tail link. Behind a resident's entry that is the next resident's, 0
+-- where there is none.
+pub record NextOf (words : List ℕ) (e next : ℕ) : Type 0 where
+  pub link-is : next ≡ field words TO-TAIL e
+  pub along-stack : (p : ℕ) → p < length (residentsIn words) → entryAt (residentsIn words) p ≡ e → next ≡ entryAt (residentsIn words) (p + 1)

@@ -18,12 +18,16 @@ use Rattle.stack.specs.BatchLaws.{Room, room, batch-declined}
 use Rattle.layout.specs.Sound.{settingsIn, totalsIn, sound, view}
 use Rattle.promises.specs.Promises.{over, Fresh, Slices, cacheIn, behind, callOf, numberOf, halved, Accepted, Batch}
 use Rattle.promises.specs.SliceLaws.{number-sound, accepted-same, accepted-reported, after-settings, after-bytes, after-store}
-use Rattle.promises.specs.Demand3.{Memory, Lending, lends, leaves, Linked, end, call, asCall, starts, Alike, Agrees, Follows, Demand3, LinkBound}
+use Rattle.promises.specs.Demand3.{Memory, Lending, lends, leaves, Linked, end, call, asCall, starts, Alike, Agrees, Follows, Demand3, LinkBound, Idle, refused, wordless, memoryLeft, StillFresh}
 
 abbrev see : Memory → Cache
 see m = cacheIn (m .directory) (m .bytes) (m .store)
 
 -- ---- slices beside the memory that they are lent from
+
+-- what was lent and came back unchanged
+leaves-same : (m : Memory) (c : Lending) → leaves m c (lends m c) ≡ m
+leaves-same m c = rw (take-append-drop, take-append-drop)
 
 module _ (m : Memory) (c : Lending) (fits : c .bytesLength ≤ length (m .bytes)) (fits′ : c .storeLength ≤ length (m .store)) (h : T (sound (m .directory))) where
   abbrev s : Settings
@@ -34,10 +38,6 @@ module _ (m : Memory) (c : Lending) (fits : c .bytesLength ≤ length (m .bytes)
 
   given : callOf (c .words) (c .incoming) (lends m c) ≡ asCall c
   given = rw (length-take-le, length-take-le)
-
-  -- what was lent and came back unchanged
-  leaves-same : leaves m c (lends m c) ≡ m
-  leaves-same = rw (take-append-drop, take-append-drop)
 
   number-agrees : {n : ℕ} {after : Slices} → Batch (c .words) (c .incoming) (lends m c) n after → n ≡ batchNumber s (totalsIn (m .directory)) (asCall c)
   number-agrees promise = promise .returned ∙ number-sound (c .words) (c .incoming) (lends m c) h ∙ ap (batchNumber s (totalsIn (m .directory))) given
@@ -53,7 +53,7 @@ module _ (m : Memory) (c : Lending) (fits : c .bytesLength ≤ length (m .bytes)
   declined n e =
       let r : batch k (asCall c) .ran ≡ nothing k = batch-declined k (asCall c) n (sym e) in (
         record { number = e; answers = rw r; outgoing = rw r; chains = λ z. absurd (omega arith) },
-        rw (leaves-same, r) (record { is-sound = h; same = refl; past = refl }),
+        rw (leaves-same m c, r) (record { is-sound = h; same = refl; past = refl }),
       )
 
   module _ (e : batchNumber s (totalsIn (m .directory)) (callOf (c .words) (c .incoming) (lends m c)) ≡ 0) where
@@ -158,3 +158,16 @@ link-bound w incoming before zero after h promise kind calm =
 link-bound w incoming before (suc n) after h promise kind calm =
     let same = promise .declined (omega arith) in
     rw (same, changed-same (before .directory)) (omega arith)
+
+-- ---- until a word is carried out
+
+wordless-same : {words incoming : List ℕ} {before after : Slices} (n : ℕ) → Batch words incoming before n after → words ≡ [] → after ≡ before
+wordless-same zero promise none = let (picked, acc) = promise .accepted refl in acc .empty-batch none
+wordless-same (suc n) promise none = promise .declined (omega arith)
+
+pub still-fresh : StillFresh
+still-fresh m [] [] end end = refl
+still-fresh m (c ∷ cs) ((n, after) ∷ ts) (call fits fits′ promise next) (refused nonzero idle) =
+    still-fresh (leaves m c after) cs ts next idle ∙ ap (leaves m c) (promise .declined nonzero) ∙ leaves-same m c
+still-fresh m (c ∷ cs) ((n, after) ∷ ts) (call fits fits′ promise next) (wordless none idle) =
+    still-fresh (leaves m c after) cs ts next idle ∙ ap (leaves m c) (wordless-same n promise none) ∙ leaves-same m c

@@ -96,6 +96,8 @@ module _ (words incoming : List ℕ) (before after : Slices) (picked : List (Wor
     pub words-past : drop (directoryLength s) (after .directory) ≡ drop (directoryLength s) (before .directory)
     pub bytes-past : drop (s .n * s .b) (after .bytes) ≡ drop (s .n * s .b) (before .bytes)
     pub store-past : drop (s .m * s .b) (after .store) ≡ drop (s .m * s .b) (before .store)
+    -- an empty batch changes nothing, what is left open neither
+    pub empty-batch : words ≡ [] → after ≡ before
     -- one read, write or purge that doesn't halve the counts
     pub links : (w : ℕ) → words ≡ w ∷ [] → w / 2 ^ 28 < 4 → All (λ a. T (not (halved a))) (ran .answers) → linksChanged (before .directory) (after .directory) ≤ 20
 

@@ -1,4 +1,4 @@
--- Changed link words: k stores change at most k, a number stored over a number none, and what calls change adds up.
+-- Changed link words: one store changes at most one, a number stored over a number none, and what stores change adds up.
 use Prim.Native.Nat.{ℕ, zero, suc, _+_, _%_, _^_, _≤_}
 use mathlib.Core.Path.{_≡_, refl, _∙_, sym, ap}
 use mathlib.Core.Bool.{Bool, true, false, not, _&&_}
@@ -111,16 +111,3 @@ and-number k u w i v h g =
       links = omega (arith, changed-aside u w i (number (v % 2 ^ 28)) h, g .links);
       long = g .long ∙ sym (length-set w i (number (v % 2 ^ 28)));
     }
-
--- ---- any stores, one after another
-
-unfoldable pub stores : List (ℕ × ℕ) → List ℕ → List ℕ
-stores [] u = u
-stores ((i, v) ∷ more) u = stores more (set u i v)
-
-pub stores-within : (l : List (ℕ × ℕ)) (u : List ℕ) → Within (length l) u (stores l u)
-unfolding stores
-stores-within [] u = within-none u
-stores-within ((i, v) ∷ more) u =
-    let both = within-then 1 (length more) u (set u i v) (stores more (set u i v)) (within-set u i v) (stores-within more (set u i v)) in
-    within-more (1 + length more) (suc (length more)) u (stores more (set u i v)) (omega arith) both

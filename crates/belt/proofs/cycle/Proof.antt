@@ -30,7 +30,7 @@ same-length : tie.Need-same-length
 same-length c = search needs
 
 returns : tie.Need-returns
-returns c = cycled-front (inputWords (c .before .before .before .before .before .before .before .before .before .before .args .input .now)) (replicate 1025 0) _ _ _ _ _ (c .before .before .before .before .before .before .decode .ensures .0) (c .before .before .before .before .before .before .decode .ensures .1) (c .before .before .run .ensures)
+returns c = cycled-front (inputWords (c .before .before .before .before .before .before .before .before .before .before .before .before .args .input .now)) (replicate 1025 0) _ _ _ _ _ _ (c .before .before .before .before .before .before .before .before .decode .ensures .0) (c .before .before .before .before .before .before .before .before .decode .ensures .1) (c .before .before .run .ensures)
 
 pub cycle-spec : {M : Type 1} → statement M
 cycle-spec =

@@ -31,12 +31,6 @@ slice-aggregate-batch-2 c = search needs
 slice-aggregate-batch-3 : tie.Need-slice-aggregate-batch-3
 slice-aggregate-batch-3 c = search needs
 
-slice-aggregate-batch-4 : tie.Need-slice-aggregate-batch-4
-slice-aggregate-batch-4 c = search needs
-
-slice-aggregate-batch-5 : tie.Need-slice-aggregate-batch-5
-slice-aggregate-batch-5 c = search needs
-
 batch-requires : tie.Need-batch-requires
 batch-requires c κs = search needs
 
@@ -51,8 +45,8 @@ same-length c = search needs
 
 returns : tie.Need-returns
 returns c =
-    belt-cycled _ _ _ _ _ _ _ _ _ _ _ _ (c .before .before .before .before .before .before .before .before .before .before .before .before .before .before .before .before .fresh .ensures) (c .before .before .before .before .before .before .before .before .batch .ensures) (c .read-off .ensures)
-    (record { directory-long = refl; incoming-is = c .before .before .before .before .before .before .before .before .before .before .before .before .before .before .before .before .before .before .before .fill-incoming .ensures; bytes-long = refl; store-zero = refl; outgoing-long = refl })
+    belt-cycled _ _ _ _ _ _ _ _ _ _ _ _ (c .before .before .before .before .before .before .before .before .before .before .before .before .before .before .fresh .ensures) (c .before .before .before .before .before .before .batch .ensures) (c .read-off .ensures)
+    (record { directory-long = refl; incoming-is = c .before .before .before .before .before .before .before .before .before .before .before .before .before .before .before .before .before .fill-incoming .ensures; bytes-long = refl; store-zero = refl; outgoing-long = search needs })
 
 pub run-spec : {M : Type 1} → statement M
 run-spec =
@@ -65,8 +59,6 @@ run-spec =
     slice-aggregate-batch
     slice-aggregate-batch-2
     slice-aggregate-batch-3
-    slice-aggregate-batch-4
-    slice-aggregate-batch-5
     batch-requires
     slice-aggregate-read-off
     read-off-requires

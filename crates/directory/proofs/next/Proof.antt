@@ -1,3 +1,4 @@
+use Rattle.layout.specs.Sound.{settingsIn, field}
 use Rattle.operations.specs.Reads.{next-word}
 use borrow.Author.Needs.{needs}
 use Rattle.directory.proofs.next.Statement.{statement}
@@ -18,7 +19,12 @@ get-requires : tie.Need-get-requires
 get-requires c κs = search needs
 
 returns : tie.Need-returns
-returns c = λ p h q. rw (c .get .ensures, c .before .word-of .ensures, c .before .before .entries-at .ensures) (next-word _ (c .before .before .before .before .pre) p _ h q)
+unfolding field settingsIn
+returns c =
+    record {
+      link-is = rw (c .get .ensures, c .before .word-of .ensures, c .before .before .entries-at .ensures);
+      along-stack = λ p h q. rw (c .get .ensures, c .before .word-of .ensures, c .before .before .entries-at .ensures) (next-word _ (c .before .before .before .before .pre) p _ h q);
+    }
 
 pub next-spec : {M : Type 1} → statement M
 next-spec = tie.close (tie.spec entries-at-requires word-of-requires get-requires returns)

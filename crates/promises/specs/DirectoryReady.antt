@@ -1,4 +1,4 @@
--- What the operations ask of their caller. Statements only.
+-- What the directory asks of the cache before an operation: the other half of its promises. Statements only.
 use Prim.Native.Nat.{ℕ, _-_, _^_, _<_}
 use mathlib.Core.Path.{_≡_}
 use mathlib.Core.Bool.{true}
