@@ -26,7 +26,7 @@ over front buffer = front ++ drop (length front) buffer
 pub record Fresh (s : Settings) (before : List ℕ) (n : ℕ) (after : List ℕ) : Type 0 where
   pub returned : n ≡ freshNumber s (length before)
   pub accepted : n ≡ 0 → after ≡ over (freshWords s) before
-  pub declined : n ≢ 0 → after ≡ before
+  pub declined : n ≢ 0 → after ≡ before  -- every word of the slice
 
 -- ---- a batch
 
@@ -104,4 +104,4 @@ module _ (words incoming : List ℕ) (before after : Slices) (picked : List (Wor
 pub record Batch (words incoming : List ℕ) (before : Slices) (n : ℕ) (after : Slices) : Type 0 where
   pub returned : n ≡ numberOf words incoming before
   pub accepted : n ≡ 0 → (picked : List (Work × ℕ)) × Accepted words incoming before after picked
-  pub declined : n ≢ 0 → after ≡ before
+  pub declined : n ≢ 0 → after ≡ before  -- every word and byte of the five slices

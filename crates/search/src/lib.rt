@@ -1,5 +1,6 @@
 ghost use mathlib.Core.Path.{_≡_};
 ghost use Prim.Native.Nat.{_≤_};
+ghost use Rattle.words.specs.Words.{val};
 ghost use Rattle.word_ops.specs.Buckets.{synonymBefore, searched, found};
 ghost use Rattle.word_ops.specs.Victim.{isOldEntry, victimFrom};
 use layout::Found;
@@ -60,6 +61,13 @@ fn is_old_entry(dir: &[u32], at: u32, e: u32) -> bool
     words::get(dir, lists::word_of(at, e, layout::SECTION)) == values::OLD
 }
 
+// The last entry of a list, by the word of its tail: of a count chain's residents the one at the greatest position. 0 where there is none.
+fn last_of(dir: &[u32], tail: u32) -> u32
+    ensures { λ r. ⌜ r ≡ val (now (dir .entry)) tail ⌝ }
+{
+    words::get(dir, tail as usize)
+}
+
 // The victim: the tail of the first count chain whose tail is old, else the stack's; with the chains looked at.
 pub fn victim(dir: &[u32], at: u32, cmax: u32) -> Picked
     requires { ⌜ cmax ≤ 64 ⌝ }
@@ -68,7 +76,7 @@ pub fn victim(dir: &[u32], at: u32, cmax: u32) -> Picked
     let mut i = 1;
     let mut left = cmax;
     while left > 0 {
-        let e = words::get(dir, lists::chain_tail(i) as usize);
+        let e = last_of(dir, lists::chain_tail(i));
         if is_old_entry(dir, at, e) {
             return Picked {
                 chains: i,
@@ -78,7 +86,7 @@ pub fn victim(dir: &[u32], at: u32, cmax: u32) -> Picked
         i += 1;
         left -= 1;
     }
-    let e = words::get(dir, layout::TAIL as usize);
+    let e = last_of(dir, layout::TAIL);
     Picked {
         chains: cmax,
         entry: e,

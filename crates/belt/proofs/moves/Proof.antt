@@ -1,3 +1,5 @@
+use Prim.Native.Nat.{_+_}
+use mathlib.Core.Path.{ap₂}
 use Rattle.layout.specs.Sound.{totalsIn}
 use Rattle.words.specs.WordLaws.{val-small}
 use native.Mathlib.Omega.{arith}
@@ -19,7 +21,7 @@ add-result c = let d = c .before .before .before .args .dir .now in omega (arith
 
 returns : tie.Need-returns
 unfolding totalsIn
-returns c = rw (← c .before .total-at .ensures, ← c .total-at2 .ensures)
+returns c = ap₂ (λ a b. a + b) (c .before .total-at .ensures) (c .total-at2 .ensures)
 
 pub moves-spec : {M : Type 1} → statement M
 moves-spec = tie.close (tie.spec total-at-requires total-at-requires-2 add-result returns)

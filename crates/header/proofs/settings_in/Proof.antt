@@ -29,7 +29,16 @@ value-requires-7 c κs = search needs
 
 returns : tie.Need-returns
 unfolding settingsIn
-returns c = rw (← c .before .before .before .before .before .before .value .ensures, ← c .before .before .before .before .before .value2 .ensures, ← c .before .before .before .before .value3 .ensures, ← c .before .before .before .value4 .ensures, ← c .before .before .value5 .ensures, ← c .before .value6 .ensures, ← c .value7 .ensures)
+returns c =
+    λ i. record {
+      n = c .before .before .before .before .before .before .value .ensures i;
+      nnew = c .before .before .before .before .before .value2 .ensures i;
+      nold = c .before .before .before .before .value3 .ensures i;
+      cmax = c .before .before .before .value4 .ensures i;
+      amax = c .before .before .value5 .ensures i;
+      b = c .before .value6 .ensures i;
+      m = c .value7 .ensures i;
+    }
 
 pub settings-in-spec : {M : Type 1} → statement M
 settings-in-spec =

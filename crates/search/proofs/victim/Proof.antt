@@ -11,7 +11,7 @@ use Rattle.search.proofs.victim.Reads as reads
 use Rattle.search.proofs.victim.Lts as lts
 use Rattle.lists.proofs.chain_tail.Reads as chain-tail-reads
 use Rattle.search.proofs.is_old_entry.Reads as is-old-entry-reads
-use Rattle.words.proofs.get.Reads as get-reads
+use Rattle.search.proofs.last_of.Reads as last-of-reads
 
 abbrev Inv-loop : tie.InvT-loop
 Inv-loop dir at cmax i₀ left₀ i left = (victimFrom dir at left i ≡ victimFrom dir at cmax 1) × (1 ≤ i) × (i + left ≡ cmax + 1) × (cmax ≤ 64)
@@ -25,11 +25,8 @@ loop-holds c = search needs
 chain-tail-requires : tie.Need-chain-tail-requires Inv-loop μ-loop
 chain-tail-requires c κs = search needs
 
-cast-get : tie.Need-cast-get Inv-loop μ-loop
-cast-get c = search needs
-
-get-requires : tie.Need-get-requires Inv-loop μ-loop
-get-requires c κs = search needs
+last-of-requires : tie.Need-last-of-requires Inv-loop μ-loop
+last-of-requires c κs = search needs
 
 is-old-entry-requires : tie.Need-is-old-entry-requires Inv-loop μ-loop
 is-old-entry-requires c κs = search needs
@@ -37,7 +34,7 @@ is-old-entry-requires c κs = search needs
 returns : tie.Need-returns Inv-loop μ-loop
 returns c =
     let l = c .before .before .before .before .before .loop in
-    let e = c .before .before .get .ensures ∙ ap (val _) (c .before .before .before .chain-tail .ensures) in
+    let e = c .before .before .last-of .ensures ∙ ap (val _) (c .before .before .before .chain-tail .ensures) in
     let q = ap (isOldEntry _ _) (sym e) ∙ sym (c .before .is-old-entry .ensures) ∙ c .if1 .taken in
     rw e (sym (picked-here _ _ (l .left) (l .i) (c .before .before .before .before .loop-test .taken) q) ∙ l .inv .0)
 
@@ -53,23 +50,20 @@ loop-less c = search needs
 loop-again : tie.Need-loop-again Inv-loop μ-loop
 loop-again c =
     let l = c .before .before .before .before .before .loop in
-    let e = c .before .before .get .ensures ∙ ap (val _) (c .before .before .before .chain-tail .ensures) in
+    let e = c .before .before .last-of .ensures ∙ ap (val _) (c .before .before .before .chain-tail .ensures) in
     let q = ap (isOldEntry _ _) (sym e) ∙ sym (c .before .is-old-entry .ensures) ∙ c .if1 .left in
     let t = c .before .before .before .before .loop-test .taken in
     (sym (picked-next _ _ (l .left) (l .i) t q) ∙ l .inv .0, omega arith, omega (arith, l .inv .2), l .inv .3)
 
-cast-get-2 : tie.Need-cast-get-2 Inv-loop μ-loop
-cast-get-2 c = search needs
-
-get-requires-2 : tie.Need-get-requires-2 Inv-loop μ-loop
-get-requires-2 c κs = search needs
+last-of-requires-2 : tie.Need-last-of-requires-2 Inv-loop μ-loop
+last-of-requires-2 c κs = search needs
 
 returns-2 : tie.Need-returns-2 Inv-loop μ-loop
 returns-2 c =
     let l = c .before .before .loop in
     let n : l .left ≡ 0 = omega (arith, c .before .loop-test .left) in
     let q : c .before .before .before .before .args .cmax ≡ l .i - 1 = omega (arith, l .inv .2) in
-    rw (c .get2 .ensures) (sym (picked-none _ _ (l .left) (l .i) _ n q) ∙ l .inv .0)
+    rw (c .last-of2 .ensures) (sym (picked-none _ _ (l .left) (l .i) _ n q) ∙ l .inv .0)
 
 pub victim-spec : {M : Type 1} → statement M
 victim-spec =
@@ -79,14 +73,12 @@ victim-spec =
     μ-loop
     loop-holds
     chain-tail-requires
-    cast-get
-    get-requires
+    last-of-requires
     is-old-entry-requires
     returns
     add-i
     sub-left
     loop-less
     loop-again
-    cast-get-2
-    get-requires-2
+    last-of-requires-2
     returns-2)

@@ -1,9 +1,8 @@
 use Rattle.check_model.specs.LoopLaws.{total-small}
 use Rattle.check_model.specs.Tests.{totalOf}
-use Rattle.check_model.specs.Walk.{totalsWith}
 use native.Mathlib.Omega.{arith}
-use borrow.Author.Tests.{lt-ltb, le-ltb}
 use borrow.Author.Needs.{needs}
+use Rattle.soundness.proofs.Laws.{ins-exceed, outs-exceed, totals-right}
 use Rattle.soundness.proofs.totals_ok.Statement.{statement}
 use Rattle.soundness.proofs.totals_ok.Tie as tie
 use Rattle.soundness.proofs.totals_ok.Reads as reads
@@ -17,8 +16,7 @@ total-at-requires-2 : tie.Need-total-at-requires-2
 total-at-requires-2 c κs = search needs
 
 returns : tie.Need-returns
-unfolding totalsWith totalOf
-returns c = rw (← c .before .before .total-at .ensures, ← c .before .total-at2 .ensures, lt-ltb _ _ (c .if1 .taken))
+returns c = ins-exceed _ _ _ _ (c .before .before .total-at .ensures) (c .before .total-at2 .ensures) (c .if1 .taken)
 
 total-at-requires-3 : tie.Need-total-at-requires-3
 total-at-requires-3 c κs = search needs
@@ -31,12 +29,10 @@ total-at-requires-4 : tie.Need-total-at-requires-4
 total-at-requires-4 c κs = search needs
 
 returns-2 : tie.Need-returns-2
-unfolding totalsWith totalOf
-returns-2 c = rw (← c .before .before .before .before .before .total-at .ensures, ← c .before .before .before .before .total-at2 .ensures, ← c .before .before .total-at3 .ensures, ← c .before .total-at4 .ensures, le-ltb _ _ (c .before .before .before .if1 .left), lt-ltb _ _ (c .if2 .taken))
+returns-2 c = outs-exceed _ _ _ _ (c .before .before .before .before .before .total-at .ensures) (c .before .before .before .before .total-at2 .ensures) (c .before .before .before .if1 .left) _ _ (c .before .before .total-at3 .ensures) (c .before .total-at4 .ensures) (c .if2 .taken)
 
 returns-3 : tie.Need-returns-3
-unfolding totalsWith totalOf
-returns-3 c = rw (← c .before .before .before .before .before .total-at .ensures, ← c .before .before .before .before .total-at2 .ensures, ← c .before .before .total-at3 .ensures, ← c .before .total-at4 .ensures, le-ltb _ _ (c .before .before .before .if1 .left), le-ltb _ _ (c .if2 .left))
+returns-3 c = totals-right _ _ _ _ (c .before .before .before .before .before .total-at .ensures) (c .before .before .before .before .total-at2 .ensures) (c .before .before .before .if1 .left) _ _ (c .before .before .total-at3 .ensures) (c .before .total-at4 .ensures) (c .if2 .left)
 
 pub totals-ok-spec : {M : Type 1} → statement M
 totals-ok-spec =
