@@ -101,7 +101,8 @@ fn a_look_returns_a_part_of_one_of_two_slices() {
     assert!(looks.contains("pub fn look<'a>(dir: &[u32], bytes: &'a [u8], store: &'a [u8], block: u32) -> &'a [u8]"));
 }
 
-/// The cache cites the directory's promises and the layout, and nothing of what is under the directory.
+/// The cache cites the directory's promises, what it asks for and the layout; nothing of what is under the directory, and no statement of
+/// the directory's own.
 #[test]
 fn the_cache_never_sees_a_link() {
     let under = [
@@ -115,6 +116,7 @@ fn the_cache_never_sees_a_link() {
                 let cited = text.contains(&format!("Rattle.{part}.")) || text.contains(&format!("{part}::"));
                 assert!(!cited, "{} cites {part}", path.display());
             }
+            assert!(!text.contains("Rattle.directory.specs"), "{} cites the directory's own statements", path.display());
         }
     }
 }

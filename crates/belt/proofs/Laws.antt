@@ -97,5 +97,6 @@ front-is words before work n e l = rw e (take-at words (drop (length words) befo
 pub front-long : (words before work : List ℕ) (n : ℕ) → work ≡ over words before → n ≡ length words → n ≡ length (take n work)
 front-long words before work n e l = l ∙ ap length (sym (front-is words before work n e l))
 
-pub cycled-front : (words before work : List ℕ) (n : ℕ) (answers outgoing : List ℕ) (after : Left) (c : Outcome) → work ≡ over words before → n ≡ length words → Cycled (take n work) answers outgoing c after → Cycled words answers outgoing c after
+pub cycled-front : (words before work : List ℕ) (n : ℕ) (answers outgoing : List ℕ) (after : Left) (c : Outcome)
+    → work ≡ over words before → n ≡ length words → Cycled (take n work) answers outgoing c after → Cycled words answers outgoing c after
 cycled-front words before work n answers outgoing after c e l = subst (λ ws. Cycled ws answers outgoing c after) (front-is words before work n e l)

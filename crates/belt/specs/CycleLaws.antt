@@ -59,13 +59,15 @@ module _ (s : Settings) (before d words incoming bytes store answers outgoing : 
   stored : {k : Plain} → Alike (leaves m c after) k past → after .store ≡ k .store ++ past
   unfolding view
   stored {k} e =
-      let all : after .store ++ drop (length store) store ≡ after .store = rw (drop-length store) (append-nil (after .store)) in
-      let blocks : take (k .settings .m * k .settings .b) (after .store ++ drop (length store) store) ≡ k .store = rw (← ap (λ x. x .settings) (e .same)) (ap (λ x. x .store) (e .same)) in
-      sym all ∙ sym (take-append-drop (k .settings .m * k .settings .b) (after .store ++ drop (length store) store)) ∙ ap₂ (λ u v. u ++ v) blocks (e .past)
+      let left = leaves m c after .store in
+      let all : left ≡ after .store = rw (drop-length store) (append-nil (after .store)) in
+      let blocks : take (k .settings .m * k .settings .b) left ≡ k .store = rw (← ap (λ x. x .settings) (e .same)) (ap (λ x. x .store) (e .same)) in
+      sym all ∙ sym (take-append-drop (k .settings .m * k .settings .b) left) ∙ ap₂ (λ u v. u ++ v) blocks (e .past)
 
   from-follows : Follows past m (starts s store) (c ∷ []) ((n, after) ∷ []) → One answers outgoing past (starts s store) (asCall c) n after
   unfolding view
-  from-follows (call a g (end e)) = record { number = g .number; answered = g .answers; given = g .outgoing; stored = stored e; totals = ap (λ k. k .totals) (e .same) }
+  from-follows (call a g (end e)) =
+      record { number = g .number; answered = g .answers; given = g .outgoing; stored = stored e; totals = ap (λ k. k .totals) (e .same) }
 
   pub one-batch : Fresh s before 0 d → Batch words incoming lent n after → One answers outgoing past (starts s store) (asCall c) n after
   one-batch f b =
@@ -114,7 +116,8 @@ module _ (work answers before d incoming bytes store outgoing : List ℕ) (after
   abbrev left : Left
   left = record { answers = after .answers; store = after .store; outgoing = after .outgoing }
 
-  from-one : ReadOff work (after .directory) n c → One answers outgoing [] beltStart (beltCall work (length answers)) n after → Cycled work answers outgoing c left
+  from-one : ReadOff work (after .directory) n c → One answers outgoing [] beltStart (beltCall work (length answers)) n after
+      → Cycled work answers outgoing c left
   unfolding beltResult
   from-one r o =
       record {
@@ -134,7 +137,9 @@ module _ (work answers before d incoming bytes store outgoing : List ℕ) (after
       → Lent before incoming bytes store outgoing
       → Cycled work answers outgoing c left
   belt-cycled p b r l =
-      from-one r (rw (calls, starts-zero store (l .store-zero), none-past) at (one-batch belt before d work incoming bytes store answers outgoing n after (accepted-fresh before d f (l .directory-long) p) b))
+      let fresh = accepted-fresh before d f (l .directory-long) p in
+      let one = one-batch belt before d work incoming bytes store answers outgoing n after fresh b in
+      from-one r (rw (calls, starts-zero store (l .store-zero), none-past) at one)
     where
       calls : asCall (record { words = work; incoming = incoming; answers = answers; outgoing = outgoing; bytesLength = length bytes; storeLength = length store }) ≡ beltCall work (length answers)
       calls = rw (l .incoming-is, l .bytes-long, l .store-zero, length-replicate {A = ℕ} 512 0, l .outgoing-long)

@@ -115,8 +115,14 @@ fn read_off(dir: &[u32], work: &[u32], number: u32) -> Outcome
 }
 
 // One batch of work words, from a fresh directory and a store of zeros.
-fn run(work: &[u32], answers: &mut [u32], store: &mut [u8; 512], outgoing: &mut [u8; 8192]) -> Outcome
-    ensures { λ r. ⌜ Cycled (now (work .entry)) (now (answers .entry)) (now (outgoing .entry)) r (record { answers = now (answers .exit); store = now (store .exit); outgoing = now (outgoing .exit) }) ⌝ }
+fn run(
+    work: &[u32],
+    answers: &mut [u32],
+    store: &mut [u8; 512],
+    outgoing: &mut [u8; 8192],
+) -> Outcome
+    ensures { λ r. ⌜ Cycled (now (work .entry)) (now (answers .entry)) (now (outgoing .entry)) r
+        (record { answers = now (answers .exit); store = now (store .exit); outgoing = now (outgoing .exit) }) ⌝ }
 {
     let mut dir = [0u32; 70];
     let mut bytes = [0u8; 32];
@@ -138,8 +144,14 @@ fn run(work: &[u32], answers: &mut [u32], store: &mut [u8; 512], outgoing: &mut 
 }
 
 // The whole cycle: the batch that the input asks for. What `store` held before is given up.
-pub fn cycle(input: &[u8], answers: &mut [u32], store: &mut [u8; 512], outgoing: &mut [u8; 8192]) -> Outcome
-    ensures { λ r. ⌜ Cycled (inputWords (now (input .entry))) (now (answers .entry)) (now (outgoing .entry)) r (record { answers = now (answers .exit); store = now (store .exit); outgoing = now (outgoing .exit) }) ⌝ }
+pub fn cycle(
+    input: &[u8],
+    answers: &mut [u32],
+    store: &mut [u8; 512],
+    outgoing: &mut [u8; 8192],
+) -> Outcome
+    ensures { λ r. ⌜ Cycled (inputWords (now (input .entry))) (now (answers .entry)) (now (outgoing .entry)) r
+        (record { answers = now (answers .exit); store = now (store .exit); outgoing = now (outgoing .exit) }) ⌝ }
 {
     let mut work = [0u32; 1025];
     let n = decode(input, &mut work);

@@ -43,7 +43,8 @@ module _ (words incoming : List ℕ) (before after : Slices) {answers : List Ans
       let valid : howMany isInvalid (map (work s) (w ∷ [])) ≡ 0 = subst (λ ws. howMany isInvalid (map (work s) ws) ≡ 0) e (allowed s (totalsIn (before .directory)) (callOf words incoming before) number .valid) in
       done .links-few (work s w) (ap (map (work s)) e) (work-bounded s w kind (omega arith)) calm
 
-  empty-batch : after .answers ≡ over (map answerWord answers) (before .answers) → after .outgoing ≡ over given (before .outgoing) → words ≡ [] → after ≡ before
+  empty-batch : after .answers ≡ over (map answerWord answers) (before .answers) → after .outgoing ≡ over given (before .outgoing)
+      → words ≡ [] → after ≡ before
   empty-batch told gave e =
       let (was, no-answers, none-given) = none-carried chain (ap (map (work s)) e) in
       let same : memoryIn after ≡ memoryIn before = sym was in

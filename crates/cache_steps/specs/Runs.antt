@@ -73,8 +73,8 @@ chain-ready end r = r
 chain-ready (next c rest) r = chain-ready rest (c .ready)
 
 -- no words leave what was there, answer nothing and give nothing
-pub none-carried : {B : ℕ} {m m₁ : Memory} {ws : List Work} {incoming : List ℕ} {answers : List Answer} {given : List ℕ} → Chain B m ws incoming m₁ answers given
-    → ws ≡ [] → (m ≡ m₁) × (answers ≡ []) × (given ≡ [])
+pub none-carried : {B : ℕ} {m m₁ : Memory} {ws : List Work} {incoming : List ℕ} {answers : List Answer} {given : List ℕ}
+    → Chain B m ws incoming m₁ answers given → ws ≡ [] → (m ≡ m₁) × (answers ≡ []) × (given ≡ [])
 none-carried end e = (refl, refl, refl)
 none-carried (next c rest) e = let z : _≡_ {A = ℕ} 0 1 = cc in absurd (omega arith)
 

@@ -20,7 +20,8 @@ use Rattle.promises.specs.Promises.{Fresh, Slices, Accepted, Batch}
 -- The orders left open: of the unused list, and of each bucket's synonyms.
 pub record SameOrders (u w : List ℕ) : Type 0 where
   pub unused : unusedEntries u ≡ unusedEntries w
-  pub synonyms : (b : ℕ) → b < buckets (settingsIn w .n) → walk u NEXT-SYNONYM (val u (bucketWord (settingsIn u) b)) ≡ walk w NEXT-SYNONYM (val w (bucketWord (settingsIn w) b))
+  pub synonyms : (b : ℕ) → b < buckets (settingsIn w .n)
+      → walk u NEXT-SYNONYM (val u (bucketWord (settingsIn u) b)) ≡ walk w NEXT-SYNONYM (val w (bucketWord (settingsIn w) b))
 
 pub record Alike (u w : List ℕ) : Type 0 where
   pub settings : settingsIn u ≡ settingsIn w
@@ -43,7 +44,8 @@ WholeFresh = (s : Settings) (before : List ℕ) (m n : ℕ) (a b : List ℕ) →
 pub record SameOutcome (words incoming : List ℕ) (before : Slices) (m : ℕ) (a : Slices) (n : ℕ) (b : Slices) : Type 0 where
   pub number : m ≡ n
   pub declined : m ≢ 0 → a ≡ b
-  pub accepted : m ≡ 0 → (picked : List (Work × ℕ)) → Accepted words incoming before a picked → Accepted words incoming before b picked → SameOrders (a .directory) (b .directory) → a ≡ b
+  pub accepted : m ≡ 0 → (picked : List (Work × ℕ)) → Accepted words incoming before a picked → Accepted words incoming before b picked
+      → SameOrders (a .directory) (b .directory) → a ≡ b
 
 abbrev pub WholeBatch : Type 0
 WholeBatch =

@@ -5,7 +5,8 @@ use mathlib.Core.Logic.{_≢_}
 use mathlib.Core.List.{List}
 use Rattle.stack.specs.Stack.{Work}
 use Rattle.promises.specs.Promises.{Fresh, Slices, numberOf, Accepted}
-use Rattle.promises.specs.OutcomeLaws.{fresh-same, settings-same, totals-same, residents-same, past-same, bytes-same, store-same, answers-same, outgoing-same}
+use Rattle.promises.specs.OutcomeLaws.{fresh-same, settings-same, totals-same, residents-same, past-same}
+use Rattle.promises.specs.OutcomeLaws.{bytes-same, store-same, answers-same, outgoing-same}
 use Rattle.completeness.specs.Complete.{SameOrders, WholeFresh, WholeBatch}
 use Rattle.completeness.specs.CompleteLaws.{complete}
 
@@ -14,18 +15,29 @@ whole-fresh s before m n a b p q =
     let e : n ≡ m = q .returned ∙ sym (p .returned) in
     (sym e, fresh-same s before m a b p (subst (λ k. Fresh s before k b) e q))
 
-accepted-same : (words incoming : List ℕ) (before a b : Slices) (picked : List (Work × ℕ)) → numberOf words incoming before ≡ 0
-    → Accepted words incoming before a picked → Accepted words incoming before b picked → SameOrders (a .directory) (b .directory) → a ≡ b
-accepted-same words incoming before a b picked number p q orders =
-    let directories : a .directory ≡ b .directory = complete (a .directory) (b .directory) (p .sound-after) (q .sound-after)
-    (record {
-      settings = settings-same words incoming before a b picked number p q;
-      totals = totals-same words incoming before a b picked number p q;
-      residents = residents-same words incoming before a b picked number p q;
-      past = past-same words incoming before a b picked number p q;
-      orders = orders;
-    }) in
-    rw (directories, bytes-same words incoming before a b picked number p q, store-same words incoming before a b picked number p q, answers-same words incoming before a b picked number p q, outgoing-same words incoming before a b picked number p q)
+module _ (words incoming : List ℕ) (before a b : Slices) (picked : List (Work × ℕ)) (number : numberOf words incoming before ≡ 0)
+    (p : Accepted words incoming before a picked) (q : Accepted words incoming before b picked)
+    (orders : SameOrders (a .directory) (b .directory)) where
+  directories : a .directory ≡ b .directory
+  directories =
+      complete (a .directory) (b .directory) (p .sound-after) (q .sound-after)
+      (record {
+        settings = settings-same words incoming before a b picked number p q;
+        totals = totals-same words incoming before a b picked number p q;
+        residents = residents-same words incoming before a b picked number p q;
+        past = past-same words incoming before a b picked number p q;
+        orders = orders;
+      })
+
+  accepted-same : a ≡ b
+  accepted-same =
+      λ i. record {
+        directory = directories i;
+        bytes = bytes-same words incoming before a b picked number p q i;
+        store = store-same words incoming before a b picked number p q i;
+        answers = answers-same words incoming before a b picked number p q i;
+        outgoing = outgoing-same words incoming before a b picked number p q i;
+      }
 
 pub whole-batch : WholeBatch
 whole-batch words incoming before m n a b p q =

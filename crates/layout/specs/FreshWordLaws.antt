@@ -34,21 +34,25 @@ unfolding unusedFrom
 length-unused e zero = refl
 length-unused e (suc n) = let h = length-unused (e + 1) n in omega arith
 
+-- the first of several unused entries
+unused-first : (e n : ℕ) → unusedFrom e (suc n) ≡ unusedEntry (nextOf e n) ++ unusedFrom (e + 1) n
+unfolding unusedFrom
+unused-first e n = refl
+
 -- word j of the i-th of n unused entries
 pub getD-unused : (e n i j m : ℕ) (rest : List ℕ) → i + suc m ≡ n → j < 9 → getD (unusedFrom e n ++ rest) (9 * i + j) 0 ≡ getD (unusedEntry (nextOf (e + i) m)) j 0
-unfolding unusedFrom
 getD-unused e zero i j m rest h g = absurd (omega arith)
 getD-unused e (suc n) zero j m rest h g =
     let k : 9 * 0 + j ≡ j = omega arith in
     let a : e ≡ e + 0 = omega arith in
     let b : n ≡ m = omega arith in
-    ap (λ k. getD (unusedFrom e (suc n) ++ rest) k 0) k
+    ap₂ (λ l k. getD (l ++ rest) k 0) (unused-first e n) k
     ∙ List·getD-append (unusedEntry (nextOf e n)) (unusedFrom (e + 1) n ++ rest) 0 j g
     ∙ ap₂ (λ a b. getD (unusedEntry (nextOf a b)) j 0) a b
 getD-unused e (suc n) (suc i) j m rest h g =
     let k : 9 * suc i + j ≡ 9 + (9 * i + j) = omega arith in
     let a : e + 1 + i ≡ e + suc i = omega arith in
-    ap (λ k. getD (unusedFrom e (suc n) ++ rest) k 0) k
+    ap₂ (λ l k. getD (l ++ rest) k 0) (unused-first e n) k
     ∙ getD-append-add (unusedEntry (nextOf e n)) (unusedFrom (e + 1) n ++ rest) (9 * i + j) 0
     ∙ getD-unused (e + 1) n i j m rest (omega arith) g
     ∙ ap (λ a. getD (unusedEntry (nextOf a m)) j 0) a

@@ -129,8 +129,10 @@ LinkBound =
 -- Calls that carried out no word: declined batches and empty ones.
 pub data Idle : List Lending → List (ℕ × Slices) → Type 0 where
   end : Idle [] []
-  refused : {c : Lending} {cs : List Lending} {n : ℕ} {after : Slices} {ts : List (ℕ × Slices)} → n ≢ 0 → Idle cs ts → Idle (c ∷ cs) ((n, after) ∷ ts)
-  wordless : {c : Lending} {cs : List Lending} {n : ℕ} {after : Slices} {ts : List (ℕ × Slices)} → c .words ≡ [] → Idle cs ts → Idle (c ∷ cs) ((n, after) ∷ ts)
+  refused : {c : Lending} {cs : List Lending} {n : ℕ} {after : Slices} {ts : List (ℕ × Slices)} → n ≢ 0 → Idle cs ts
+      → Idle (c ∷ cs) ((n, after) ∷ ts)
+  wordless : {c : Lending} {cs : List Lending} {n : ℕ} {after : Slices} {ts : List (ℕ × Slices)} → c .words ≡ [] → Idle cs ts
+      → Idle (c ∷ cs) ((n, after) ∷ ts)
 
 -- the memory after a list of calls
 abbrev pub memoryLeft : Memory → List Lending → List (ℕ × Slices) → Memory

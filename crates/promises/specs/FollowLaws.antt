@@ -18,7 +18,8 @@ use Rattle.stack.specs.BatchLaws.{Room, room, batch-declined}
 use Rattle.layout.specs.Sound.{settingsIn, totalsIn, sound, view}
 use Rattle.promises.specs.Promises.{over, Fresh, Slices, cacheIn, behind, callOf, numberOf, halved, Accepted, Batch}
 use Rattle.promises.specs.SliceLaws.{number-sound, accepted-same, accepted-reported, after-settings, after-bytes, after-store}
-use Rattle.promises.specs.Demand3.{Memory, Lending, lends, leaves, Linked, end, call, asCall, starts, Alike, Agrees, Follows, Demand3, LinkBound, Idle, refused, wordless, memoryLeft, StillFresh}
+use Rattle.promises.specs.Demand3.{Memory, Lending, lends, leaves, Linked, end, call, asCall, starts, Alike, Agrees, Follows, Demand3, LinkBound}
+use Rattle.promises.specs.Demand3.{Idle, refused, wordless, memoryLeft, StillFresh}
 
 abbrev see : Memory → Cache
 see m = cacheIn (m .directory) (m .bytes) (m .store)

@@ -2,7 +2,7 @@
 -- but for the directory's orders that are left open.
 use Prim.Native.Nat.{ℕ, zero, suc, _*_}
 use native.Mathlib.Omega.{arith}
-use mathlib.Core.Path.{_≡_, refl, sym, ap, ap₂, subst, _∙_}
+use mathlib.Core.Path.{_≡_, refl, sym, ap, ap₂, subst₂, _∙_}
 use mathlib.Core.Bool.{Bool, true, false}
 use mathlib.Core.List.{List, _++_}
 use lib.ListN.{take, drop, take-append-drop}
@@ -10,7 +10,6 @@ use lib.Dec.{T}
 use Rattle.basics.specs.Basics.{if_then_else_}
 use Rattle.settings.specs.declared.Settings.{Settings}
 use Rattle.settings.specs.Buckets.{directoryLength}
-use Rattle.stack.specs.Recency.{Resident}
 use Rattle.stack.specs.Stack.{Work}
 use Rattle.stack.specs.Batch.{batchNumber}
 use Rattle.layout.specs.Sound.{settingsIn, totalsIn, residentsIn, sound, view}
@@ -72,19 +71,26 @@ module _ (words incoming : List ℕ) (before a b : Slices) (picked : List (Work 
   unfolding view
   residents-same = ap (λ c. c .stack .residents) same
 
-  pub past-same : drop (directoryLength (settingsIn (b .directory))) (a .directory) ≡ drop (directoryLength (settingsIn (b .directory))) (b .directory)
+  abbrev past : Slices → List ℕ
+  past t = drop (directoryLength (settingsIn (b .directory))) (t .directory)
+
+  pub past-same : past a ≡ past b
   past-same = rw of-b (p .words-past ∙ sym (q .words-past))
 
   -- of the other slices
 
   pub bytes-same : a .bytes ≡ b .bytes
-  bytes-same = joined (s .n * s .b) (a .bytes) (b .bytes) (subst (λ x. take (x .n * x .b) (a .bytes) ≡ take (s .n * s .b) (b .bytes)) of-a
-      (subst (λ x. take (settingsIn (a .directory) .n * settingsIn (a .directory) .b) (a .bytes) ≡ take (x .n * x .b) (b .bytes)) of-b (ap (λ c. c .bytes) same))) (p .bytes-past ∙ sym (q .bytes-past))
+  bytes-same =
+      joined (s .n * s .b) (a .bytes) (b .bytes)
+      (subst₂ (λ x y. take (x .n * x .b) (a .bytes) ≡ take (y .n * y .b) (b .bytes)) of-a of-b (ap (λ c. c .bytes) same))
+      (p .bytes-past ∙ sym (q .bytes-past))
 
   pub store-same : a .store ≡ b .store
   unfolding view
-  store-same = joined (s .m * s .b) (a .store) (b .store) (subst (λ x. take (x .m * x .b) (a .store) ≡ take (s .m * s .b) (b .store)) of-a
-      (subst (λ x. take (settingsIn (a .directory) .m * settingsIn (a .directory) .b) (a .store) ≡ take (x .m * x .b) (b .store)) of-b (ap (λ c. c .stack .store) same))) (p .store-past ∙ sym (q .store-past))
+  store-same =
+      joined (s .m * s .b) (a .store) (b .store)
+      (subst₂ (λ x y. take (x .m * x .b) (a .store) ≡ take (y .m * y .b) (b .store)) of-a of-b (ap (λ c. c .stack .store) same))
+      (p .store-past ∙ sym (q .store-past))
 
   pub answers-same : a .answers ≡ b .answers
   answers-same = p .answers ∙ sym (q .answers)

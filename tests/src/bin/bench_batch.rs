@@ -1,5 +1,5 @@
 //! Nanoseconds of one reference in batches of 1,024 reads and writes: the library beside the same cache in plain Rust,
-//! with the same check before every batch, its bytes copied by the C library or by a loop as the library's are; and
+//! with the same check before every batch, its bytes copied by the C library, as the library's are, or by a loop; and
 //! beside a plain LRU cache, which checks nothing. The library's check of the directory alone; hit ratios.
 //! Run with `cargo run --release --bin bench_batch`; then, to look closer, rounds, N and B may follow.
 use cache_tests::reference::beside::Batch;

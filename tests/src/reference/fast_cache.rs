@@ -22,7 +22,7 @@ pub fn batch(
     run::<false>(dir, data, store, work, incoming, answers, outgoing)
 }
 
-/// The same, its bytes copied by a loop as the library's are.
+/// The same, its bytes copied by a loop that the compiler may not turn into a call of the C library.
 pub fn batch_by_loop(
     dir: &mut [u32], data: &mut [u8], store: &mut [u8], work: &[u32], incoming: &[u8], answers: &mut [u32],
     outgoing: &mut [u8],

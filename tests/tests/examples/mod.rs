@@ -87,6 +87,20 @@ fn g_and_h() {
     assert!((belt.dir, belt.data, belt.store) == before);
 }
 
+/// Example h past fresh: purges have put the unused list out of its rising order, and an empty batch leaves it so, however much it is lent.
+#[test]
+fn an_empty_batch_changes_nothing() {
+    let mut belt = start(BELT, 209);
+    let mut words = reads(&[10, 11, 12, 13]);
+    words.extend([word(work::PURGE, 10), word(work::PURGE, 12), word(work::WRITE, 11)]);
+    run(&mut belt, &words);
+    let before = (belt.dir.clone(), belt.data.clone(), belt.store.clone());
+    let (mut answers, mut outgoing) = ([7; 3], [9; 16]);
+    let number = batch(&mut belt.dir, &mut belt.data, &mut belt.store, &[], &[5; 8], &mut answers, &mut outgoing);
+    assert_eq!((number, answers, outgoing), (0, [7; 3], [9; 16]));
+    assert!((belt.dir, belt.data, belt.store) == before);
+}
+
 /// The same example over words written by hand: no helper of the histories is used.
 #[test]
 fn a_by_hand() {

@@ -30,7 +30,11 @@ same-length : tie.Need-same-length
 same-length c = search needs
 
 returns : tie.Need-returns
-returns c = cycled-front (inputWords (c .before .before .before .before .before .before .before .before .before .before .before .before .args .input .now)) (replicate 1025 0) _ _ _ _ _ _ (c .before .before .before .before .before .before .before .before .decode .ensures .0) (c .before .before .before .before .before .before .before .before .decode .ensures .1) (c .before .before .run .ensures)
+returns c =
+    let ran = c .before .before in
+    let decoded = ran .before .before .before .before .before .before in
+    let input = decoded .before .before .before .before .args .input .now in
+    cycled-front (inputWords input) (replicate 1025 0) _ _ _ _ _ _ (decoded .decode .ensures .0) (decoded .decode .ensures .1) (ran .run .ensures)
 
 pub cycle-spec : {M : Type 1} → statement M
 cycle-spec =

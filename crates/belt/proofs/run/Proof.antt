@@ -45,8 +45,17 @@ same-length c = search needs
 
 returns : tie.Need-returns
 returns c =
-    belt-cycled _ _ _ _ _ _ _ _ _ _ _ _ (c .before .before .before .before .before .before .before .before .before .before .before .before .before .before .fresh .ensures) (c .before .before .before .before .before .before .batch .ensures) (c .read-off .ensures)
-    (record { directory-long = refl; incoming-is = c .before .before .before .before .before .before .before .before .before .before .before .before .before .before .before .before .before .fill-incoming .ensures; bytes-long = refl; store-zero = refl; outgoing-long = search needs })
+    let ran = c .before .before .before .before .before .before in
+    let made = ran .before .before .before .before .before .before .before .before in
+    let filled = made .before .before .before in
+    belt-cycled _ _ _ _ _ _ _ _ _ _ _ _ (made .fresh .ensures) (ran .batch .ensures) (c .read-off .ensures)
+    (record {
+      directory-long = refl;
+      incoming-is = filled .fill-incoming .ensures;
+      bytes-long = refl;
+      store-zero = refl;
+      outgoing-long = search needs;
+    })
 
 pub run-spec : {M : Type 1} → statement M
 run-spec =

@@ -24,7 +24,9 @@ returns : tie.Need-returns
 returns c = search needs
 
 print-answers-requires : tie.Need-print-answers-requires
-print-answers-requires c κs = omega (arith, short-input (c .before .before .before .before .before .before .before .before .before .args .input .now), c .before .before .before .before .cycle .ensures .words)
+print-answers-requires c κs =
+    let cycled = c .before .before .before .before in
+    omega (arith, short-input (cycled .before .before .before .before .before .args .input .now), cycled .cycle .ensures .words)
 
 slice-aggregate-write-all : tie.Need-slice-aggregate-write-all
 slice-aggregate-write-all c = search needs

@@ -59,7 +59,18 @@ has-kind-requires-9 c κs = search needs
 
 returns : tie.Need-returns
 unfolding nineTest
-returns c = rw (c .before .before .before .before .before .before .before .before .has-kind .ensures, c .before .before .before .before .before .before .before .has-kind2 .ensures, c .before .before .before .before .before .before .has-kind3 .ensures, c .before .before .before .before .before .has-kind4 .ensures, c .before .before .before .before .has-kind5 .ensures, c .before .before .before .has-kind6 .ensures, c .before .before .has-kind7 .ensures, c .before .has-kind8 .ensures, c .has-kind9 .ensures)
+returns c =
+    rw (
+      c .before .before .before .before .before .before .before .before .has-kind .ensures,
+      c .before .before .before .before .before .before .before .has-kind2 .ensures,
+      c .before .before .before .before .before .before .has-kind3 .ensures,
+      c .before .before .before .before .before .has-kind4 .ensures,
+      c .before .before .before .before .has-kind5 .ensures,
+      c .before .before .before .has-kind6 .ensures,
+      c .before .before .has-kind7 .ensures,
+      c .before .has-kind8 .ensures,
+      c .has-kind9 .ensures,
+    )
 
 pub nine-ok-spec : {M : Type 1} → statement M
 nine-ok-spec =

@@ -20,7 +20,12 @@ same-length : tie.Need-same-length
 same-length c = search needs
 
 returns : tie.Need-returns
-returns c = rw (c .before .before .enter .ensures, c .before .before .before .mark-of .ensures, c .before .before .before .before .before .before .before .miss-count .ensures)
+returns c =
+    rw (
+      c .before .before .enter .ensures,
+      c .before .before .before .mark-of .ensures,
+      c .before .before .before .before .before .before .before .miss-count .ensures,
+    )
 
 pub enter-entry-spec : {M : Type 1} → statement M
 enter-entry-spec =

@@ -23,7 +23,8 @@ unfolding field settingsIn
 returns c =
     record {
       link-is = rw (c .get .ensures, c .before .word-of .ensures, c .before .before .entries-at .ensures);
-      along-stack = λ p h q. rw (c .get .ensures, c .before .word-of .ensures, c .before .before .entries-at .ensures) (next-word _ (c .before .before .before .before .pre) p _ h q);
+      along-stack = λ p h q. rw (c .get .ensures, c .before .word-of .ensures, c .before .before .entries-at .ensures)
+          (next-word _ (c .before .before .before .before .pre) p _ h q);
     }
 
 pub next-spec : {M : Type 1} → statement M

@@ -24,7 +24,13 @@ same-length : tie.Need-same-length
 same-length c = search needs
 
 returns : tie.Need-returns
-returns c = rw (c .before .before .out-count .ensures, c .before .before .before .before .before .before .replace .ensures, c .before .before .before .before .before .before .before .mark-of .ensures, c .before .before .before .before .before .before .before .before .before .before .before .miss-count .ensures)
+returns c =
+    rw (
+      c .before .before .out-count .ensures,
+      c .before .before .before .before .before .before .replace .ensures,
+      c .before .before .before .before .before .before .before .mark-of .ensures,
+      c .before .before .before .before .before .before .before .before .before .before .before .miss-count .ensures,
+    )
 
 pub replace-entry-spec : {M : Type 1} → statement M
 replace-entry-spec =

@@ -29,10 +29,18 @@ total-at-requires-4 : tie.Need-total-at-requires-4
 total-at-requires-4 c κs = search needs
 
 returns-2 : tie.Need-returns-2
-returns-2 c = outs-exceed _ _ _ _ (c .before .before .before .before .before .total-at .ensures) (c .before .before .before .before .total-at2 .ensures) (c .before .before .before .if1 .left) _ _ (c .before .before .total-at3 .ensures) (c .before .total-at4 .ensures) (c .if2 .taken)
+returns-2 c =
+    let outs = c .before .before in
+    let ins = outs .before .before in
+    outs-exceed _ _ _ _ (ins .before .total-at .ensures) (ins .total-at2 .ensures) (outs .before .if1 .left)
+    _ _ (outs .total-at3 .ensures) (c .before .total-at4 .ensures) (c .if2 .taken)
 
 returns-3 : tie.Need-returns-3
-returns-3 c = totals-right _ _ _ _ (c .before .before .before .before .before .total-at .ensures) (c .before .before .before .before .total-at2 .ensures) (c .before .before .before .if1 .left) _ _ (c .before .before .total-at3 .ensures) (c .before .total-at4 .ensures) (c .if2 .left)
+returns-3 c =
+    let outs = c .before .before in
+    let ins = outs .before .before in
+    totals-right _ _ _ _ (ins .before .total-at .ensures) (ins .total-at2 .ensures) (outs .before .if1 .left)
+    _ _ (outs .total-at3 .ensures) (c .before .total-at4 .ensures) (c .if2 .left)
 
 pub totals-ok-spec : {M : Type 1} → statement M
 totals-ok-spec =
