@@ -13,6 +13,7 @@ use Rattle.settings.specs.declared.Settings.{Settings}
 use Rattle.stack.specs.Stack.{Plain, answerWord, empty}
 use Rattle.stack.specs.Batch.{Call, Result, work, AllReported, batch}
 use Rattle.stack.specs.Entries.{plain}
+use Rattle.layout.specs.Layout.{freshWords}
 use Rattle.layout.specs.Sound.{sound}
 use Rattle.promises.specs.Promises.{over, Fresh, Slices, cacheIn, behind, callOf, halved, Batch}
 
@@ -140,6 +141,12 @@ memoryLeft m [] ts = m
 memoryLeft m (c ∷ cs) [] = m
 memoryLeft m (c ∷ cs) ((n, after) ∷ ts) = memoryLeft (leaves m c after) cs ts
 
--- Until a word is carried out every word and byte stays, the unused list's rising order too.
+-- Until a word is carried out the directory is as fresh made it, the unused list's rising order too, and data and store are as they were.
 abbrev pub StillFresh : Type 0
-StillFresh = (m : Memory) (cs : List Lending) (ts : List (ℕ × Slices)) → Linked m cs ts → Idle cs ts → memoryLeft m cs ts ≡ m
+StillFresh =
+    (s : Settings) (before directory bytes store : List ℕ) (cs : List Lending) (ts : List (ℕ × Slices))
+    → Fresh s before 0 directory
+    → Linked (record { directory = directory; bytes = bytes; store = store }) cs ts
+    → Idle cs ts
+    → memoryLeft (record { directory = directory; bytes = bytes; store = store }) cs ts
+    ≡ record { directory = over (freshWords s) before; bytes = bytes; store = store }

@@ -166,9 +166,14 @@ wordless-same : {words incoming : List ℕ} {before after : Slices} (n : ℕ) �
 wordless-same zero promise none = let (picked, acc) = promise .accepted refl in acc .empty-batch none
 wordless-same (suc n) promise none = promise .declined (omega arith)
 
+idle-same : (m : Memory) (cs : List Lending) (ts : List (ℕ × Slices)) → Linked m cs ts → Idle cs ts → memoryLeft m cs ts ≡ m
+idle-same m [] [] end end = refl
+idle-same m (c ∷ cs) ((n, after) ∷ ts) (call fits fits′ promise next) (refused nonzero idle) =
+    idle-same (leaves m c after) cs ts next idle ∙ ap (leaves m c) (promise .declined nonzero) ∙ leaves-same m c
+idle-same m (c ∷ cs) ((n, after) ∷ ts) (call fits fits′ promise next) (wordless none idle) =
+    idle-same (leaves m c after) cs ts next idle ∙ ap (leaves m c) (wordless-same n promise none) ∙ leaves-same m c
+
 pub still-fresh : StillFresh
-still-fresh m [] [] end end = refl
-still-fresh m (c ∷ cs) ((n, after) ∷ ts) (call fits fits′ promise next) (refused nonzero idle) =
-    still-fresh (leaves m c after) cs ts next idle ∙ ap (leaves m c) (promise .declined nonzero) ∙ leaves-same m c
-still-fresh m (c ∷ cs) ((n, after) ∷ ts) (call fits fits′ promise next) (wordless none idle) =
-    still-fresh (leaves m c after) cs ts next idle ∙ ap (leaves m c) (wordless-same n promise none) ∙ leaves-same m c
+still-fresh s before directory bytes store cs ts fresh linked idle =
+    idle-same (record { directory = directory; bytes = bytes; store = store }) cs ts linked idle
+    ∙ ap (λ d. record { directory = d; bytes = bytes; store = store }) (fresh .accepted refl)
