@@ -1,3 +1,5 @@
+use mathlib.Core.Path.{ap₂}
+use mathlib.Core.Bool.{_&&_}
 use borrow.Author.Needs.{needs}
 use Rattle.check_model.specs.Nines.{nineTest}
 use Rattle.check_stack.proofs.nine_ok.Statement.{statement}
@@ -60,17 +62,19 @@ has-kind-requires-9 c κs = search needs
 returns : tie.Need-returns
 unfolding nineTest
 returns c =
-    rw (
-      c .before .before .before .before .before .before .before .before .has-kind .ensures,
-      c .before .before .before .before .before .before .before .has-kind2 .ensures,
-      c .before .before .before .before .before .before .has-kind3 .ensures,
-      c .before .before .before .before .before .has-kind4 .ensures,
-      c .before .before .before .before .has-kind5 .ensures,
-      c .before .before .before .has-kind6 .ensures,
-      c .before .before .has-kind7 .ensures,
-      c .before .has-kind8 .ensures,
-      c .has-kind9 .ensures,
-    )
+    let i7 = c .before in
+    let i6 = i7 .before in
+    let i5 = i6 .before in
+    let i4 = i5 .before in
+    let i3 = i4 .before in
+    let i2 = i3 .before in
+    let i1 = i2 .before in
+    let i0 = i1 .before in
+    ap₂ _&&_
+    (ap₂ _&&_ (ap₂ _&&_ (ap₂ _&&_ (i0 .has-kind .ensures) (i1 .has-kind2 .ensures)) (i2 .has-kind3 .ensures)) (i3 .has-kind4 .ensures))
+    (ap₂ _&&_
+    (ap₂ _&&_ (ap₂ _&&_ (ap₂ _&&_ (i4 .has-kind5 .ensures) (i5 .has-kind6 .ensures)) (i6 .has-kind7 .ensures)) (i7 .has-kind8 .ensures))
+    (c .has-kind9 .ensures))
 
 pub nine-ok-spec : {M : Type 1} → statement M
 nine-ok-spec =

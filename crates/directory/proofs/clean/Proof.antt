@@ -1,5 +1,4 @@
 use Rattle.directory.proofs.Laws.{clean-returns}
-use Rattle.word_ops.specs.Clean.{cleaned}
 use borrow.Author.Needs.{needs}
 use Rattle.directory.proofs.clean.Statement.{statement}
 use Rattle.directory.proofs.clean.Tie as tie
@@ -29,8 +28,13 @@ same-length : tie.Need-same-length
 same-length c = search needs
 
 returns : tie.Need-returns
-unfolding cleaned
-returns c = clean-returns _ _ _ _ (c .before .before .before .before .before .before .before .before .before .before .before .before .pre) (c .before .before .before .before .before .before .before .before .before .entries-at .ensures) (rw (c .before .before .total-raise .ensures, c .before .before .before .before .before .before .set-number .ensures, c .before .before .before .before .before .before .before .word-of .ensures))
+returns c =
+    let raised = c .before .before in
+    let marked = raised .before .before .before .before in
+    let worded = marked .before in
+    let based = worded .before .before in
+    clean-returns _ _ _ _ _ _ (based .before .before .before .pre) (based .entries-at .ensures) (worded .word-of .ensures)
+    (marked .set-number .ensures) (raised .total-raise .ensures)
 
 pub clean-spec : {M : Type 1} → statement M
 clean-spec =

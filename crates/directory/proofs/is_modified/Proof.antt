@@ -1,4 +1,8 @@
-use Rattle.layout.specs.Sound.{settingsIn, field, residentAt}
+use mathlib.Core.Path.{ap}
+use lib.Dec.{eqb}
+use Rattle.layout.specs.Addresses.{MODIFIED}
+use Rattle.layout.specs.Sound.{residentAt}
+use Rattle.directory.proofs.Laws.{read-field}
 use borrow.Author.Needs.{needs}
 use Rattle.directory.proofs.is_modified.Statement.{statement}
 use Rattle.directory.proofs.is_modified.Tie as tie
@@ -18,8 +22,10 @@ get-requires : tie.Need-get-requires
 get-requires c κs = search needs
 
 returns : tie.Need-returns
-unfolding residentAt field settingsIn
-returns c = rw (c .get .ensures, c .before .word-of .ensures, c .before .before .entries-at .ensures)
+unfolding residentAt
+returns c =
+    let w = c .before .before .before .before .args .dir .now in
+    ap (λ m. eqb m 1) (read-field w MODIFIED _ _ _ _ (c .before .before .entries-at .ensures) (c .before .word-of .ensures) (c .get .ensures))
 
 pub is-modified-spec : {M : Type 1} → statement M
 is-modified-spec = tie.close (tie.spec entries-at-requires word-of-requires get-requires returns)

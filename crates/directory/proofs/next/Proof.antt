@@ -1,4 +1,5 @@
-use Rattle.layout.specs.Sound.{settingsIn, field}
+use Rattle.layout.specs.Addresses.{TO-TAIL}
+use Rattle.directory.proofs.Laws.{read-field}
 use Rattle.operations.specs.Reads.{next-word}
 use borrow.Author.Needs.{needs}
 use Rattle.directory.proofs.next.Statement.{statement}
@@ -19,10 +20,10 @@ get-requires : tie.Need-get-requires
 get-requires c κs = search needs
 
 returns : tie.Need-returns
-unfolding field settingsIn
 returns c =
+    let w = c .before .before .before .before .args .dir .now in
     record {
-      link-is = rw (c .get .ensures, c .before .word-of .ensures, c .before .before .entries-at .ensures);
+      link-is = read-field w TO-TAIL _ _ _ _ (c .before .before .entries-at .ensures) (c .before .word-of .ensures) (c .get .ensures);
       along-stack = λ p h q. rw (c .get .ensures, c .before .word-of .ensures, c .before .before .entries-at .ensures)
           (next-word _ (c .before .before .before .before .pre) p _ h q);
     }
