@@ -116,7 +116,11 @@ fn the_cache_never_sees_a_link() {
                 let cited = text.contains(&format!("Rattle.{part}.")) || text.contains(&format!("{part}::"));
                 assert!(!cited, "{} cites {part}", path.display());
             }
-            assert!(!text.contains("Rattle.directory.specs"), "{} cites the directory's own statements", path.display());
+            assert!(
+                !text.contains("Rattle.directory.specs"),
+                "{} cites the directory's own statements",
+                path.display()
+            );
         }
     }
 }
@@ -142,6 +146,43 @@ fn entry_points_have_no_requires() {
     for part in ffi.split("#[no_mangle]").skip(1) {
         let head = &part[..part.find("\n{").unwrap()];
         assert!(head.contains("ensures") && !head.contains("requires"), "{head}");
+    }
+}
+
+/// The texts between back quotes.
+fn quoted(text: &str) -> Vec<&str> {
+    text.split('`').skip(1).step_by(2).collect()
+}
+
+/// Each public function of the C interface, the directory, the settings, FNV-1a and the numbers has two wrong programs of its own:
+/// docs/PROOFS.md names them, a group of its own for each function, and they are there.
+#[test]
+fn every_public_function_has_two_wrong_programs() {
+    let proofs = fs::read_to_string(root().join("docs/PROOFS.md")).unwrap();
+    let table = &proofs[proofs.find("Wrong programs of each public function").unwrap()..];
+    let mut told = vec![];
+    for row in table.lines().filter(|line| line.starts_with("| `")) {
+        let columns: Vec<&str> = row.split('|').collect();
+        let functions = quoted(columns[1]);
+        let groups: Vec<Vec<&str>> = columns[2].split(';').map(quoted).collect();
+        assert!(groups.len() >= functions.len() && groups.iter().all(|edits| edits.len() >= 2), "{row}");
+        for edits in groups {
+            let folder = root().join("crates").join(edits[0].split('/').next().unwrap()).join("must-fail");
+            for edit in edits {
+                let path = folder.join(format!("{}.edit", edit.rsplit('/').next().unwrap()));
+                assert!(path.is_file(), "{}", path.display());
+            }
+        }
+        told.extend(functions.iter().map(|name| name.rsplit("::").next().unwrap()));
+    }
+    for name in ["ffi", "directory", "settings", "fnv", "numbers"] {
+        for line in source(&format!("{name}/src/lib.rt")).lines().map(str::trim) {
+            let Some(rest) = line.strip_prefix("pub fn ").or(line.strip_prefix("pub extern \"C\" fn ")) else {
+                continue;
+            };
+            let function = rest.split(['(', '<']).next().unwrap();
+            assert!(told.contains(&function), "{name}::{function}");
+        }
     }
 }
 
