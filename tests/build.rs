@@ -1,4 +1,4 @@
-// Links the archive that `rt staticlib ffi` wrote, from the folder FBR_ARCHIVE_DIR names, else beside crates.txt; and the check in C
+// Links the archive that `rt staticlib fbr` wrote, from the folder FBR_ARCHIVE_DIR names, else beside crates.txt; and the check in C
 // that the library's is timed against.
 use std::path::{Path, PathBuf};
 use std::process::Command;
@@ -8,9 +8,9 @@ fn main() {
     let archives =
         std::env::var("FBR_ARCHIVE_DIR").map(PathBuf::from).unwrap_or_else(|_| here.join("../target/staticlib"));
     println!("cargo:rerun-if-env-changed=FBR_ARCHIVE_DIR");
-    println!("cargo:rerun-if-changed={}", archives.join("libffi.a").display());
-    println!("cargo:rustc-env=FBR_ARCHIVE={}", archives.join("libffi.a").display());
-    println!("cargo:rustc-link-lib=static=ffi");
+    println!("cargo:rerun-if-changed={}", archives.join("libfbr.a").display());
+    println!("cargo:rustc-env=FBR_ARCHIVE={}", archives.join("libfbr.a").display());
+    println!("cargo:rustc-link-lib=static=fbr");
     println!("cargo:rustc-link-search=native={}", archives.display());
     check_in_c(&here);
 }

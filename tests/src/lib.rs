@@ -1,6 +1,6 @@
 //! Tests of the verified block cache, beside another implementation.
 //!
-//! This file wraps the functions that `crates/ffi` exports; a slice passes as a pointer, then an element count.
+//! This file wraps the functions that `crates/fbr` exports; a slice passes as a pointer, then an element count.
 //! [`reference`] is written in plain Rust from the scope alone and shares nothing with the library. The tests run
 //! both over the same inputs and compare every number, word and verdict.
 pub mod reference;

@@ -140,10 +140,10 @@ fn entry_points_have_no_requires() {
         let entry = function(&text, name);
         assert!(entry.contains("ensures") && !entry.contains("requires"), "{name}");
     }
-    let ffi = source("ffi/src/lib.rt");
-    let exported = ffi.matches("#[no_mangle]").count();
+    let exports = source("fbr/src/lib.rt");
+    let exported = exports.matches("#[no_mangle]").count();
     assert_eq!(exported, 8);
-    for part in ffi.split("#[no_mangle]").skip(1) {
+    for part in exports.split("#[no_mangle]").skip(1) {
         let head = &part[..part.find("\n{").unwrap()];
         assert!(head.contains("ensures") && !head.contains("requires"), "{head}");
     }
@@ -175,7 +175,7 @@ fn every_public_function_has_two_wrong_programs() {
         }
         told.extend(functions.iter().map(|name| name.rsplit("::").next().unwrap()));
     }
-    for name in ["ffi", "directory", "settings", "fnv", "numbers"] {
+    for name in ["fbr", "directory", "settings", "fnv", "numbers"] {
         for line in source(&format!("{name}/src/lib.rt")).lines().map(str::trim) {
             let Some(rest) = line.strip_prefix("pub fn ").or(line.strip_prefix("pub extern \"C\" fn ")) else {
                 continue;

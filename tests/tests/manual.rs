@@ -40,7 +40,7 @@ fn the_manual_shows_the_files() {
 fn the_c_program() {
     assert!(Command::new("cc").arg("--version").output().is_ok(), "no C compiler `cc`: the C program was not tried");
     let archives = std::env::var("FBR_ARCHIVE_DIR").map(PathBuf::from);
-    let archive = archives.unwrap_or_else(|_| root().join("target/staticlib")).join("libffi.a");
+    let archive = archives.unwrap_or_else(|_| root().join("target/staticlib")).join("libfbr.a");
     let program = folder().join("small_of_the_manual");
     let flags = ["-std=c99", "-pedantic", "-Wall", "-Wextra", "-Werror", "-O2"];
     let mut cc = Command::new("cc");

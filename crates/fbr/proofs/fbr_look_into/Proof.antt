@@ -1,8 +1,8 @@
 use mathlib.Core.Path.{_≡_}
 use Rattle.promises.specs.Looks.{lookBytes}
 use borrow.Author.Needs.{needs}
-use Rattle.ffi.proofs.fbr_look_into.Statement.{statement}
-use Rattle.ffi.proofs.fbr_look_into.Tie as tie
+use Rattle.fbr.proofs.fbr_look_into.Statement.{statement}
+use Rattle.fbr.proofs.fbr_look_into.Tie as tie
 
 look-requires : tie.Need-look-requires
 look-requires c κs = search needs

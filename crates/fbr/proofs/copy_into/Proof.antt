@@ -1,11 +1,11 @@
 use mathlib.Core.Path.{refl}
 use borrow.Author.Tests.{lt-leb}
-use Rattle.ffi.specs.LookedLaws.{front-copied}
+use Rattle.fbr.specs.LookedLaws.{front-copied}
 use borrow.Author.Needs.{needs}
-use Rattle.ffi.proofs.copy_into.Statement.{statement}
-use Rattle.ffi.proofs.copy_into.Tie as tie
-use Rattle.ffi.proofs.copy_into.Reads as reads
-use Rattle.ffi.proofs.copy_into.Lts as lts
+use Rattle.fbr.proofs.copy_into.Statement.{statement}
+use Rattle.fbr.proofs.copy_into.Tie as tie
+use Rattle.fbr.proofs.copy_into.Reads as reads
+use Rattle.fbr.proofs.copy_into.Lts as lts
 use Rattle.bytes.proofs.copy.Reads as copy-reads
 
 copy-requires : tie.Need-copy-requires

@@ -1,12 +1,12 @@
 use mathlib.Core.Path.{refl}
 use borrow.Author.Tests.{le-leb, lt-leb}
 use borrow.Author.Needs.{needs}
-use Rattle.ffi.proofs.fbr_named.Statement.{statement}
-use Rattle.ffi.proofs.fbr_named.Tie as tie
-use Rattle.ffi.proofs.fbr_named.Reads as reads
-use Rattle.ffi.proofs.fbr_named.Lts as lts
-use Rattle.ffi.proofs.put_settings.Reads as put-settings-reads
-use Rattle.ffi.proofs.settings_named.Reads as settings-named-reads
+use Rattle.fbr.proofs.fbr_named.Statement.{statement}
+use Rattle.fbr.proofs.fbr_named.Tie as tie
+use Rattle.fbr.proofs.fbr_named.Reads as reads
+use Rattle.fbr.proofs.fbr_named.Lts as lts
+use Rattle.fbr.proofs.put_settings.Reads as put-settings-reads
+use Rattle.fbr.proofs.settings_named.Reads as settings-named-reads
 
 returns : tie.Need-returns
 returns c = rw (lt-leb _ 2 (c .if1 .taken)) (refl, refl)

@@ -1,11 +1,11 @@
 use native.Mathlib.Omega.{arith}
 use lib.ListN.{length-set}
-use Rattle.ffi.specs.NamedLaws.{seven-stores}
+use Rattle.fbr.specs.NamedLaws.{seven-stores}
 use borrow.Author.Needs.{needs}
-use Rattle.ffi.proofs.put_settings.Statement.{statement}
-use Rattle.ffi.proofs.put_settings.Tie as tie
-use Rattle.ffi.proofs.put_settings.Reads as reads
-use Rattle.ffi.proofs.put_settings.Lts as lts
+use Rattle.fbr.proofs.put_settings.Statement.{statement}
+use Rattle.fbr.proofs.put_settings.Tie as tie
+use Rattle.fbr.proofs.put_settings.Reads as reads
+use Rattle.fbr.proofs.put_settings.Lts as lts
 
 slice-write-out : tie.Need-slice-write-out
 slice-write-out c = search needs
