@@ -1,4 +1,4 @@
--- The number of a batch by the lengths of what is lent (document 01, "When a call declines"). Assumes nothing.
+-- The number of a batch by the lengths of what is lent (SCOPE, "When a call declines"). Assumes nothing.
 use Prim.Native.Nat.{ℕ, _+_, _-_, _*_, _^_}
 use mathlib.Core.Bool.{_||_}
 use mathlib.Core.List.{List, [], _∷_, map}

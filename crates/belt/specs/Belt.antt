@@ -1,4 +1,4 @@
--- What belt cycle is given: work words from the bytes of standard input, and the bytes of the writes. Assumes nothing.
+-- What belt cycle is given (SCOPE, "The program"): work words from the bytes of standard input, and the bytes of the writes. Assumes nothing.
 use Prim.Native.Nat.{ℕ, zero, suc, _+_, _*_, _%_}
 use mathlib.Core.List.{List, [], _∷_, _++_}
 use lib.ListN.{take, replicate}

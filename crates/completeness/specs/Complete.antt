@@ -1,5 +1,5 @@
 -- Nothing is left out. The words of a sound directory are fixed by settings, totals, residents in stack order with their entries, the
--- words past the directory, and the orders that document 01 leaves open ("synonym order, entry numbers and the unused list's order").
+-- words past the directory, and the orders that are left open (SCOPE, "What every call owes": entry numbers, synonyms, the unused list).
 -- And so two outcomes of one call, with what is left open the same, are equal in every word and byte. Statements only.
 use Prim.Native.Nat.{ℕ, _<_}
 use mathlib.Core.Path.{_≡_}

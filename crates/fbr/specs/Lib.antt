@@ -1,4 +1,4 @@
+pub mod Fronts
+pub mod FrontLaws
 pub mod Named
-pub mod NamedLaws
-pub mod Looked
-pub mod LookedLaws
+pub mod Totals

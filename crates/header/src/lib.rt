@@ -3,6 +3,14 @@ ghost use mathlib.Core.Path.{_≡_};
 ghost use Prim.Native.Nat.{_+_, _<_};
 ghost use Rattle.layout.specs.Sound.{settingsIn, totalAt, totalsIn};
 
+// The totals since fresh.
+pub struct Totals {
+    pub reads: u64, // read words carried out, hits included
+    pub writes: u64, // write words
+    pub ins: u64, // blocks copied in from the store
+    pub outs: u64, // blocks written to it
+}
+
 // The settings that a directory's header holds.
 pub fn settings_in(dir: &[u32]) -> Settings
     ensures { λ r. ⌜ r ≡ settingsIn (now (dir .entry)) ⌝ }
@@ -31,4 +39,17 @@ pub fn references(dir: &[u32]) -> u64
     ensures { λ r. ⌜ r ≡ totalsIn (now (dir .entry)) .reads + totalsIn (now (dir .entry)) .writes ⌝ }
 {
     total_at(dir, layout::READS) + total_at(dir, layout::WRITES)
+}
+
+// The totals that a directory's header holds.
+pub fn totals_in(dir: &[u32]) -> Totals
+    ensures { λ r. ⌜ (r .reads ≡ totalsIn (now (dir .entry)) .reads) × (r .writes ≡ totalsIn (now (dir .entry)) .writes)
+        × (r .ins ≡ totalsIn (now (dir .entry)) .ins) × (r .outs ≡ totalsIn (now (dir .entry)) .outs) ⌝ }
+{
+    Totals {
+        reads: total_at(dir, layout::READS),
+        writes: total_at(dir, layout::WRITES),
+        ins: total_at(dir, layout::INS),
+        outs: total_at(dir, layout::OUTS),
+    }
 }

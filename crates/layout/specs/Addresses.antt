@@ -1,4 +1,4 @@
--- Where each word of the directory stands (document 01, "The directory"): the words of the header and of an entry by name, and
+-- Where each word of the directory stands (SCOPE, "The directory"): the words of the header and of an entry by name, and
 -- the addresses of chains, buckets and entries. Definitions, proofs and code all go by these. Assumes nothing.
 use Prim.Native.Nat.{ℕ, _+_, _*_, _%_}
 use Rattle.fnv.specs.Fnv.{fnv}

@@ -1,4 +1,4 @@
--- The kinds of the directory's words (document 01, "The directory"), and the words of a fresh one. Assumes nothing.
+-- The kinds of the directory's words (SCOPE, "The directory"), and the words of a fresh one. Assumes nothing.
 use Prim.Native.Nat.{ℕ, zero, suc, _+_, _*_}
 use mathlib.Core.List.{List, [], _∷_, _++_, map}
 use lib.ListN.{replicate}

@@ -1,4 +1,4 @@
--- What the directory's words say, and when they are sound (document 01, "The directory"). All of it computes: `sound` is what a
+-- What the directory's words say, and when they are sound (SCOPE, "The directory"). All of it computes: `sound` is what a
 -- batch's number 6 tests, `view` the recency stack that the words stand for. Assumes nothing.
 use Prim.Native.Nat.{ℕ, zero, suc, _+_, _-_, _*_, _/_, _^_}
 use mathlib.Core.Bool.{Bool, true, false, _&&_, _||_}

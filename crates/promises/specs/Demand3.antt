@@ -1,5 +1,5 @@
--- Demand 3: every list of calls that begins with an accepted fresh and goes on with batches, each linked to the next by its promise
--- alone, beside the plain stack over the same list. Statements only.
+-- Demand 3 (SCOPE, "The demands"): every list of calls that begins with an accepted fresh and goes on with batches, each
+-- linked to the next by its promise alone, beside the plain stack over the same list. Statements only.
 use Prim.Native.Nat.{ℕ, _*_, _/_, _^_, _≤_, _<_}
 use mathlib.Core.Path.{_≡_}
 use mathlib.Core.Logic.{_≢_}

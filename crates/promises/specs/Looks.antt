@@ -1,4 +1,4 @@
--- What a look promises (document 01, "Looking at a block"): the number of its companion, and the part of data or of store that holds
+-- What a look promises (SCOPE, "Looking at a block"): the number of its companion, and the part of data or of store that holds
 -- the block's present bytes, by its bytes and by its place. Nothing is written. Statements only.
 use Prim.Native.Nat.{ℕ, _+_, _-_, _*_}
 use mathlib.Core.Bool.{_||_, not}

@@ -1,5 +1,6 @@
--- What fresh and a batch promise, over the directory's words, the data buffer, the store, answers and outgoing. Every word and
--- byte stands in an equation; open are the entries picked, the unused list's order and that of synonyms.
+-- What fresh and a batch promise (SCOPE, "When a call declines", "What every call owes"), over the directory's words, the data
+-- buffer, the store, answers and outgoing. Every word and byte stands in an equation; open are the entries picked, the unused
+-- list's order and that of synonyms.
 use Prim.Native.Nat.{ℕ, _*_, _/_, _^_, _≤_, _<_}
 use mathlib.Core.Path.{_≡_}
 use mathlib.Core.Logic.{_≢_}

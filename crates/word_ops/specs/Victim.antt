@@ -1,4 +1,4 @@
--- The search for a victim by the tails of the chains (source document 000, section 2.4). Assumes nothing.
+-- The search for a victim by the tails of the chains (section 2.4 of the paper). Assumes nothing.
 use Prim.Native.Nat.{ℕ, zero, suc, _+_, _-_}
 use mathlib.Core.Bool.{Bool, not, _&&_}
 use mathlib.Core.List.{List}

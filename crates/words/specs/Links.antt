@@ -1,5 +1,5 @@
--- How many link words differ between two states of a directory (document 01: "A link word counts as changed if its value after
--- the batch differs from that before"). Assumes nothing.
+-- How many link words differ between two states of a directory (SCOPE, "The demands": a link word is changed if its
+-- value after the batch is another than before). Assumes nothing.
 use Prim.Native.Nat.{ℕ, _+_, _/_, _^_}
 use mathlib.Core.Bool.{Bool, not, _&&_}
 use mathlib.Core.List.{List, [], _∷_}

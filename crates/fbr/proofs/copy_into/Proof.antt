@@ -1,6 +1,6 @@
 use mathlib.Core.Path.{refl}
 use borrow.Author.Tests.{lt-leb}
-use Rattle.fbr.specs.LookedLaws.{front-copied}
+use Rattle.fbr.specs.FrontLaws.{front-copied}
 use borrow.Author.Needs.{needs}
 use Rattle.fbr.proofs.copy_into.Statement.{statement}
 use Rattle.fbr.proofs.copy_into.Tie as tie

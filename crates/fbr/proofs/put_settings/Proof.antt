@@ -1,6 +1,7 @@
 use native.Mathlib.Omega.{arith}
 use lib.ListN.{length-set}
-use Rattle.fbr.specs.NamedLaws.{seven-stores}
+use Rattle.fbr.specs.FrontLaws.{stores-over}
+use Rattle.fbr.specs.Named.{settingsWords}
 use borrow.Author.Needs.{needs}
 use Rattle.fbr.proofs.put_settings.Statement.{statement}
 use Rattle.fbr.proofs.put_settings.Tie as tie
@@ -32,7 +33,7 @@ same-length : tie.Need-same-length
 same-length c = simp length-set
 
 returns : tie.Need-returns
-returns c = let s = c .args .s in seven-stores (s .n) (s .nnew) (s .nold) (s .cmax) (s .amax) (s .b) (s .m) (c .args .out .now) (c .pre)
+returns c = stores-over (settingsWords (c .args .s)) (c .args .out .now) (c .pre)
 
 pub put-settings-spec : {M : Type 1} → statement M
 put-settings-spec =
