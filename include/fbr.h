@@ -5,15 +5,18 @@
  * nothing is allocated and nothing is freed: directory, data and store are the caller's, and the whole state of a
  * cache stands in them. Slices pass as a pointer and an element count: 32-bit words for directory, work and answers,
  * bytes for data, store, incoming and outgoing. A pointer must not be null and must be aligned for its elements,
- * also where the count is 0. Slices that one call may write to must not overlap any other slice of that call.
- * Calls over the same memory must not run at the same time.
+ * also where the count is 0: fbr_no_bytes and fbr_no_words give pointers for that. Slices that one call may write to
+ * must not overlap any other slice of that call. Calls over the same memory must not run at the same time.
+ *
+ * Platform: the archive is for x86-64 Linux with glibc 2.34 or newer. The words of directory, work and answers have
+ * the machine's byte order, which there is low byte first.
  *
  * Settings: N cache blocks (1 to 4,096), of which Nnew form the new section and Nold the old one (Nold at least 1,
  * Nnew + Nold at most N), chain limit Cmax (1 to 64), average limit Amax (1 to 1,000), block size B (1 to 4,096
  * bytes) and the store's blocks M (1 to 262,144, numbered from 0).
  *
  * Sizes of the lent memory:
- *   directory   24 + 2 * Cmax + fbr_buckets(N) + 9 * N words, or more: words past that stay untouched
+ *   directory   fbr_directory_words(N, Cmax) words, or more: words past that stay untouched
  *   data        N * B bytes, or more
  *   store       M * B bytes, or more; block k is the B bytes from k * B on
  *   work        at most 1,024 words
@@ -21,18 +24,19 @@
  *   incoming    B bytes for each write, or more
  *   outgoing    B bytes for each read, or more
  *
- * Returned numbers, checked in this order. A call that returns another number than 0 changes nothing.
+ * Returned numbers, checked in this order; fbr_totals checks 10 before 6. A call that returns another number than 0
+ * changes nothing, except that fbr_totals writes zeros with 6. fbr_number_text gives each number's text.
  *    0  accepted
  *    1  N outside its limits                                                 fresh
  *    2  Nold is 0 or Nnew + Nold exceeds N                                   fresh
  *    3  Cmax or Amax outside                                                 fresh
  *    4  B or M outside                                                       fresh
  *    5  directory too short                                                  fresh
- *    6  directory not sound                                                  batch, look
+ *    6  directory not sound                                                  batch, look, totals
  *    7  data below N * B or store below M * B bytes                          batch, look
  *    8  more than 1,024 work words                                           batch
  *    9  a kind outside 1 to 4, a block of M or more, a flush with a value    batch; look: a block of M or more
- *   10  answers, incoming or outgoing shorter than the batch needs           batch
+ *   10  answers, incoming or outgoing shorter than the batch needs           batch; totals: out below 4 numbers
  *   11  reads + writes + batch length above 2^56 - 1                         batch
  */
 #ifndef FBR_H
@@ -40,6 +44,10 @@
 
 #include <stddef.h>
 #include <stdint.h>
+
+/* The version, as a number for #if (major * 10000 + minor * 100 + patch) and as a text. */
+#define FBR_VERSION 200
+#define FBR_VERSION_TEXT "0.2.0"
 
 #ifdef __cplusplus
 extern "C" {
@@ -61,13 +69,40 @@ enum {
     FBR_TOTALS_FULL = 11
 };
 
+/* What a returned number says, in one line without the number. */
+static inline const char *fbr_number_text(uint32_t number) {
+    switch (number) {
+    case FBR_ACCEPTED: return "accepted";
+    case FBR_BAD_N: return "N is outside 1 to 4,096";
+    case FBR_BAD_SECTIONS: return "Nold is 0, or Nnew + Nold exceeds N";
+    case FBR_BAD_COUNT_LIMIT: return "Cmax is outside 1 to 64, or Amax outside 1 to 1,000";
+    case FBR_BAD_SIZE: return "B is outside 1 to 4,096, or M outside 1 to 262,144";
+    case FBR_SHORT_DIRECTORY: return "the directory is too short for the settings";
+    case FBR_UNSOUND: return "the directory is not sound";
+    case FBR_SHORT_DATA_OR_STORE: return "data is shorter than N x B bytes, or the store shorter than M x B";
+    case FBR_TOO_MANY_WORDS: return "the batch has more than 1,024 work words";
+    case FBR_BAD_WORD: return "a work word has a wrong kind, a block of M or more, or a flush with a value";
+    case FBR_SHORT_BUFFER: return "answers, incoming, outgoing or a look's buffer is too short";
+    case FBR_TOTALS_FULL: return "reads + writes + batch length exceeds 2^56 - 1";
+    default: return "not a number of this library";
+    }
+}
+
 /* A word has its kind in the top 4 bits and its value in the low 28. */
-#define FBR_WORD(kind, value) (((uint32_t)(kind) << 28) | ((uint32_t)(value) & UINT32_C(0x0fffffff)))
 #define FBR_KIND(word) ((uint32_t)(word) >> 28)
 #define FBR_VALUE(word) ((uint32_t)(word) & UINT32_C(0x0fffffff))
 
 /* Kinds of work words: read, write and purge have a block number as value, flush has 0. */
 enum { FBR_READ = 1, FBR_WRITE = 2, FBR_PURGE = 3, FBR_FLUSH = 4 };
+
+/*
+ * A work word. What does not fit never becomes another block's word: a value above 28 bits becomes the largest value
+ * and a kind above 15 becomes 15, and every batch refuses such a word with 9.
+ */
+static inline uint32_t fbr_word(uint32_t kind, uint64_t value) {
+    uint32_t most = UINT32_C(0x0fffffff);
+    return (kind > 15 ? UINT32_C(15) : kind) << 28 | (value > most ? most : (uint32_t)value);
+}
 
 /*
  * Kinds of answer words and their values:
@@ -79,6 +114,28 @@ enum { FBR_READ = 1, FBR_WRITE = 2, FBR_PURGE = 3, FBR_FLUSH = 4 };
  *   flushed   how many blocks were written out
  */
 enum { FBR_HIT = 1, FBR_ENTERED = 2, FBR_REPLACED = 3, FBR_PURGED = 4, FBR_ABSENT = 5, FBR_FLUSHED = 6 };
+
+/* The parts of an answer word, each for the kinds named. They take the whole word; yes is 1 and no is 0. */
+#define FBR_ANSWER_COUNT(answer) (FBR_VALUE(answer) & UINT32_C(0x03ffffff))    /* hit: the count */
+#define FBR_ANSWER_HALVED(answer) (FBR_VALUE(answer) >> 26 & UINT32_C(1))      /* hit, entered: counts were halved */
+#define FBR_ANSWER_VICTIM(answer) (FBR_VALUE(answer) & UINT32_C(0x0003ffff))   /* replaced: the block that left */
+#define FBR_ANSWER_CHAINS(answer) (FBR_VALUE(answer) >> 18 & UINT32_C(0x7f))   /* replaced: chains looked at */
+#define FBR_ANSWER_WRITTEN_OUT(answer) (FBR_VALUE(answer) >> 25 & UINT32_C(1)) /* replaced: the victim was modified */
+#define FBR_ANSWER_DISCARDED(answer) (FBR_VALUE(answer) & UINT32_C(1))         /* purged: modified bytes were lost */
+#define FBR_ANSWER_FLUSHED(answer) FBR_VALUE(answer)                           /* flushed: blocks written out */
+
+/*
+ * Pointers for empty slices, as of a batch without writes or reads. Pass them with count 0 only: nothing is read or
+ * written through them, so one call may get the same pointer more than once.
+ */
+static inline uint8_t *fbr_no_bytes(void) {
+    static uint8_t none;
+    return &none;
+}
+static inline uint32_t *fbr_no_words(void) {
+    static uint32_t none;
+    return &none;
+}
 
 /*
  * Writes a fresh directory over dir: no residents, totals 0. Earlier words do not matter.
@@ -116,6 +173,13 @@ size_t fbr_look_into(const uint32_t *dir, size_t dir_len, const uint8_t *data, s
 uint32_t fbr_sound(const uint32_t *dir, size_t dir_len);
 
 /*
+ * The totals since the directory was fresh, at the front of out in the order reads, writes, blocks in, blocks out; the
+ * rest of out stays. Returns 0; or 10 where out_len is below 4, and leaves out as it was; or 6, with four zeros in out.
+ * The directory stays as it is.
+ */
+uint32_t fbr_totals(const uint32_t *dir, size_t dir_len, uint64_t *out, size_t out_len);
+
+/*
  * The 32-bit FNV-1a of a block number's four bytes, low byte first.
  */
 uint32_t fbr_hash(uint32_t block);
@@ -124,6 +188,12 @@ uint32_t fbr_hash(uint32_t block);
  * The bucket count: the smallest power of two not below n; 0 for an n outside its limits.
  */
 uint32_t fbr_buckets(uint32_t n);
+
+/*
+ * The words of a directory for n cache blocks and chain limit cmax: 24 + 2 * cmax + fbr_buckets(n) + 9 * n; 0 for an n
+ * or cmax outside its limits.
+ */
+uint32_t fbr_directory_words(uint32_t n, uint32_t cmax);
 
 /* Named settings. */
 enum { FBR_UNIX = 0, FBR_C51 = 1, FBR_CUST11 = 2 };

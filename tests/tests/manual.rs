@@ -1,33 +1,83 @@
-//! The two programs of docs/MANUAL.md: the manual shows the files as they are, and what they print.
+//! The programs of docs/MANUAL.md: it shows the files as they are and what they print, and its ways to build work.
+use std::fs;
+use std::os::unix::fs::symlink;
 use std::path::{Path, PathBuf};
-use std::process::{Command, Output};
+use std::process::Command;
 
-fn root() -> PathBuf {
-    PathBuf::from(env!("CARGO_MANIFEST_DIR")).join("..")
-}
-fn text(path: &str) -> String {
-    std::fs::read_to_string(root().join(path)).unwrap_or_else(|e| panic!("{path}: {e}"))
-}
+#[path = "../c/compile.rs"]
+mod compile;
+use compile::{compiled, needed, printed, root, text, LANGUAGES};
 
-/// The one block of the manual that is fenced with this language.
-fn shown(language: &str) -> String {
+/// The one block of the manual that is fenced with these words.
+fn shown(info: &str) -> String {
     let manual = text("docs/MANUAL.md");
-    let fence = format!("\n```{language}\n");
-    let mut blocks = manual.split(&fence).skip(1).map(|rest| rest.split("```").next().unwrap());
-    let block = blocks.next().unwrap_or_else(|| panic!("no block of {language}"));
-    assert!(blocks.next().is_none(), "more than one block of {language}");
-    block.to_string()
+    let fence = format!("\n```{info}\n");
+    let mut blocks = manual.split(&fence).skip(1).map(|rest| rest.split_once("\n```").expect("the end of a block").0);
+    let block = blocks.next().unwrap_or_else(|| panic!("no block of {info}"));
+    assert!(blocks.next().is_none(), "more than one block of {info}");
+    format!("{block}\n")
 }
 
-/// What a command prints, once it has ended well.
-fn printed(command: &mut Command) -> String {
-    let Output { status, stdout, stderr } = command.output().unwrap_or_else(|e| panic!("{command:?}: {e}"));
-    assert!(status.success(), "{command:?}: {status}\n{}", String::from_utf8_lossy(&stderr));
-    String::from_utf8(stdout).unwrap()
+/// A new folder of this name, for one test.
+fn folder(name: &str) -> PathBuf {
+    let folder = Path::new(env!("CARGO_TARGET_TMPDIR")).join("manual").join(name);
+    let _ = fs::remove_dir_all(&folder);
+    fs::create_dir_all(&folder).unwrap();
+    folder
 }
 
-fn folder() -> &'static Path {
-    Path::new(env!("CARGO_TARGET_TMPDIR"))
+/// A folder that has what the manual's lines use of the repository: the archive may lie elsewhere.
+fn repository(inside: &Path) -> PathBuf {
+    let repository = inside.join("repository");
+    fs::create_dir_all(repository.join("target/staticlib")).unwrap();
+    for part in ["include", "docs"] {
+        symlink(root().join(part), repository.join(part)).unwrap();
+    }
+    symlink(env!("FBR_ARCHIVE"), repository.join("target/staticlib/libfbr.a")).unwrap();
+    repository
+}
+
+/// The lines of a block, run by the shell in a folder.
+fn run(lines: &str, folder: &Path) -> String {
+    printed(Command::new("sh").args(["-e", "-c"]).arg(lines).current_dir(folder).env_remove("MAKEFLAGS"))
+}
+
+/// Builds the manual's program by a tool: file and lines out of the manual, with the repository's path filled in.
+fn built_by(tool: &str, file: &str, block: &str) {
+    needed(tool);
+    let (folder, lines) = (folder(tool), shown(block));
+    assert_eq!(lines.matches("/path/to/fbr").count(), 1, "{block}: the path of the repository");
+    let lines = lines.replace("/path/to/fbr", repository(&folder).to_str().unwrap());
+    fs::write(folder.join(file), lines).unwrap();
+    fs::write(folder.join("small.c"), shown("c")).unwrap();
+    let all = run(&shown(&format!("sh {tool}")), &folder);
+    assert!(all.ends_with(&shown("text small")), "{tool} and the program printed\n{all}");
+}
+
+/// What an example of the Rust crate prints, run in a folder of its own.
+fn example(name: &str) -> String {
+    let folder = folder(name);
+    let mut cargo = cargo("run", &folder.with_file_name("bindings"));
+    printed(cargo.args(["--release", "--example", name]).current_dir(folder))
+}
+fn cargo(command: &str, target: &Path) -> Command {
+    let mut cargo = Command::new(env!("CARGO"));
+    cargo.args([command, "--quiet", "--offline", "--manifest-path"]).arg(root().join("bindings/rust/Cargo.toml"));
+    cargo.arg("--target-dir").arg(target);
+    cargo
+}
+
+fn fnv64(bytes: &[u8]) -> u64 {
+    bytes.iter().fold(14_695_981_039_346_656_037, |sum, &b| (sum ^ u64::from(b)).wrapping_mul(1_099_511_628_211))
+}
+
+/// A saved file beside the manual's table: mark, lengths, parts, checksum, and nothing more.
+fn check_saved(file: &[u8]) {
+    let number = |at: usize| u64::from_le_bytes(file[at..at + 8].try_into().unwrap());
+    assert_eq!(&file[..8], b"FBRSAVE1");
+    let sum_at = 32 + 4 * number(8) + number(16) + number(24);
+    assert_eq!(file.len() as u64, sum_at + 8);
+    assert_eq!(number(sum_at as usize), fnv64(&file[..sum_at as usize]));
 }
 
 #[test]
@@ -38,21 +88,56 @@ fn the_manual_shows_the_files() {
 
 #[test]
 fn the_c_program() {
-    assert!(Command::new("cc").arg("--version").output().is_ok(), "no C compiler `cc`: the C program was not tried");
-    let archives = std::env::var("FBR_ARCHIVE_DIR").map(PathBuf::from);
-    let archive = archives.unwrap_or_else(|_| root().join("target/staticlib")).join("libfbr.a");
-    let program = folder().join("small_of_the_manual");
-    let flags = ["-std=c99", "-pedantic", "-Wall", "-Wextra", "-Werror", "-O2"];
-    let mut cc = Command::new("cc");
-    cc.args(flags).arg("-I").arg(root().join("include")).arg(root().join("docs/manual/small.c"));
-    printed(cc.arg(archive).arg("-o").arg(&program));
-    assert_eq!(printed(&mut Command::new(program)), shown("text"));
+    let folder = folder("the_c_program");
+    for language in &LANGUAGES {
+        let program = compiled(language, "docs/manual/small.c", &folder);
+        assert_eq!(printed(&mut Command::new(program)), shown("text small"), "{}", language.compiler);
+    }
+}
+
+#[test]
+fn saving_in_c() {
+    let folder = folder("saving_in_c");
+    for language in &LANGUAGES {
+        let (program, file) = (compiled(language, "docs/manual/save.c", &folder), folder.join(language.compiler));
+        assert_eq!(printed(Command::new(program).arg(&file)), shown("text save"), "{}", language.compiler);
+        check_saved(&fs::read(&file).unwrap());
+        assert!(!file.with_extension("new").exists(), "the other name is left");
+    }
+}
+
+#[test]
+fn the_plain_lines() {
+    needed("cc");
+    let repository = repository(&folder("the_plain_lines"));
+    assert_eq!(run(&shown("sh cc"), &repository), shown("text small"));
+    assert_eq!(run(&shown("sh save"), &repository), shown("text save"));
+}
+
+#[test]
+fn built_by_make() {
+    built_by("make", "Makefile", "make");
+}
+#[test]
+fn built_by_cmake() {
+    built_by("cmake", "CMakeLists.txt", "cmake");
+}
+#[test]
+fn built_by_pkg_config() {
+    built_by("pkg-config", "fbr.pc", "ini fbr.pc");
 }
 
 #[test]
 fn the_rust_program() {
-    let mut cargo = Command::new(env!("CARGO"));
-    cargo.args(["run", "--quiet", "--offline", "--release", "--example", "small"]);
-    cargo.arg("--target-dir").arg(folder().join("bindings")).current_dir(root().join("bindings/rust"));
-    assert_eq!(printed(&mut cargo), shown("text"));
+    assert_eq!(example("small"), shown("text small"));
+}
+#[test]
+fn the_controller() {
+    assert_eq!(example("controller"), shown("text controller"));
+}
+
+#[test]
+fn the_crate_is_documented() {
+    let mut cargo = cargo("doc", &folder("documentation"));
+    printed(cargo.arg("--no-deps").env("RUSTDOCFLAGS", "-D warnings"));
 }
