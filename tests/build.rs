@@ -1,4 +1,4 @@
-// Compiles the check in C that the library's is timed against, and names the archive, which the crate fbr links, to the tests.
+// Compiles the check in C that the library's is timed against. The crate fbr links the archive; FBR_ARCHIVE is its path.
 use std::path::{Path, PathBuf};
 use std::process::Command;
 

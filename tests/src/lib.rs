@@ -111,7 +111,8 @@ pub fn directory_words(n: u32, cmax: u32) -> u32 {
     unsafe { sys::fbr_directory_words(n, cmax) }
 }
 
-/// Named settings (0 UNIX, 1 C51, 2 CUST11) at the front of `out`, in the order of the header; how many words were written.
+/// Named settings (0 UNIX, 1 C51, 2 CUST11) at the front of `out`, in the order of the header; how many words were
+/// written.
 pub fn named(which: u32, n: u32, b: u32, m: u32, out: &mut [u32]) -> usize {
     unsafe { sys::fbr_named(which, n, b, m, out.as_mut_ptr(), out.len()) }
 }

@@ -78,7 +78,7 @@ impl Cache {
     ///
     /// # Errors
     ///
-    /// 6 to 11; nothing has changed then.
+    /// 8 to 11; 6 or 7 only where [`Cache::memory`] was used to change the directory. Nothing has changed then.
     pub fn run(&mut self, work: &[Work], incoming: &[u8]) -> Result<Ran, Refusal> {
         let b = self.parts().block_bytes();
         let words: Vec<u32> = work.iter().map(|word| word.word()).collect();
@@ -93,7 +93,7 @@ impl Cache {
     ///
     /// # Errors
     ///
-    /// 9, or 6 where [`Cache::memory`] was used to change the directory.
+    /// 9 where the block is M or more. 6 or 7 only where [`Cache::memory`] was used to change the directory.
     pub fn look(&self, block: u32) -> Result<Vec<u8>, Refusal> {
         self.parts().look(block)
     }
@@ -102,7 +102,7 @@ impl Cache {
     ///
     /// # Errors
     ///
-    /// 6, where [`Cache::memory`] was used to change the directory.
+    /// 6, only where [`Cache::memory`] was used to change the directory.
     pub fn totals(&self) -> Result<Totals, Refusal> {
         self.parts().totals()
     }
@@ -111,7 +111,7 @@ impl Cache {
     ///
     /// # Errors
     ///
-    /// 6, where [`Cache::memory`] was used to change the directory.
+    /// 6, only where [`Cache::memory`] was used to change the directory.
     pub fn settings(&self) -> Result<Settings, Refusal> {
         self.parts().settings()
     }
