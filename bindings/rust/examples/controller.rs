@@ -6,7 +6,7 @@ use fbr::{Answer, Cache, NotTaken, Parts, Ran, Settings, Totals, View, Work};
 use std::error::Error;
 use std::fs::{self, File};
 use std::io::Write;
-use std::path::Path;
+use std::path::{Path, PathBuf};
 
 /// A block holds a text of this length.
 const B: u32 = 16;
@@ -207,11 +207,18 @@ fn day(path: &Path) -> Outcome<()> {
     Ok(())
 }
 
+/// The file of the saves, removed at the end however the program ends.
+struct SaveFile(PathBuf);
+
+impl Drop for SaveFile {
+    fn drop(&mut self) {
+        // either may not be there
+        let _ = fs::remove_file(self.0.with_extension("new"));
+        let _ = fs::remove_file(&self.0);
+    }
+}
+
 fn main() -> Outcome<()> {
-    let path = std::env::temp_dir().join(format!("fbr-controller-{}.save", std::process::id()));
-    let outcome = day(&path);
-    // where a save failed, there may be no file, or one that was never made whole
-    let _ = fs::remove_file(path.with_extension("new"));
-    let _ = fs::remove_file(path);
-    outcome
+    let file = SaveFile(std::env::temp_dir().join(format!("fbr-controller-{}.save", std::process::id())));
+    day(&file.0)
 }
