@@ -1,34 +1,11 @@
 //! Tests of the verified block cache, beside another implementation.
 //!
-//! This file wraps the functions that `crates/fbr` exports; a slice passes as a pointer, then an element count.
+//! This file wraps the functions that `crates/fbr` exports, by the declarations of [`fbr::sys`]: raw numbers and words.
 //! [`reference`] is written in plain Rust from the scope alone and shares nothing with the library. The tests run
 //! both over the same inputs and compare every number, word and verdict.
-pub mod reference;
+use fbr::sys;
 
-mod ffi {
-    extern "C" {
-        pub fn fbr_fresh(
-            n: u32, nnew: u32, nold: u32, cmax: u32, amax: u32, b: u32, m: u32, dir: *mut u32, len: usize,
-        ) -> u32;
-        pub fn fbr_batch(
-            dir: *mut u32, dir_len: usize, data: *mut u8, data_len: usize, store: *mut u8, store_len: usize,
-            work: *const u32, work_len: usize, incoming: *const u8, incoming_len: usize, answers: *mut u32,
-            answers_len: usize, outgoing: *mut u8, outgoing_len: usize,
-        ) -> u32;
-        pub fn fbr_look_number(
-            dir: *const u32, dir_len: usize, data: *const u8, data_len: usize, store: *const u8, store_len: usize,
-            block: u32,
-        ) -> u32;
-        pub fn fbr_look_into(
-            dir: *const u32, dir_len: usize, data: *const u8, data_len: usize, store: *const u8, store_len: usize,
-            block: u32, out: *mut u8, out_len: usize,
-        ) -> usize;
-        pub fn fbr_sound(dir: *const u32, len: usize) -> u32;
-        pub fn fbr_hash(block: u32) -> u32;
-        pub fn fbr_buckets(n: u32) -> u32;
-        pub fn fbr_named(which: u32, n: u32, b: u32, m: u32, out: *mut u32, len: usize) -> usize;
-    }
-}
+pub mod reference;
 
 /// The settings of a cache. They need not be legal: the tests lend wrong ones too.
 #[derive(Clone, Copy, Debug, PartialEq, Eq)]
@@ -62,7 +39,7 @@ pub const LIBRARY: reference::beside::Tested = reference::beside::Tested {
 
 /// Writes a fresh directory over `dir`, or returns 1 to 5.
 pub fn fresh(s: Settings, dir: &mut [u32]) -> u32 {
-    unsafe { ffi::fbr_fresh(s.n, s.nnew, s.nold, s.cmax, s.amax, s.b, s.m, dir.as_mut_ptr(), dir.len()) }
+    unsafe { sys::fbr_fresh(s.n, s.nnew, s.nold, s.cmax, s.amax, s.b, s.m, dir.as_mut_ptr(), dir.len()) }
 }
 
 /// Runs a batch of work words and returns 0, or changes nothing and returns 6 to 11.
@@ -72,7 +49,7 @@ pub fn batch(
     outgoing: &mut [u8],
 ) -> u32 {
     unsafe {
-        ffi::fbr_batch(
+        sys::fbr_batch(
             dir.as_mut_ptr(),
             dir.len(),
             data.as_mut_ptr(),
@@ -95,36 +72,47 @@ pub fn batch(
 #[inline]
 pub fn look_number(dir: &[u32], data: &[u8], store: &[u8], block: u32) -> u32 {
     let (d, b, s) = (dir.as_ptr(), data.as_ptr(), store.as_ptr());
-    unsafe { ffi::fbr_look_number(d, dir.len(), b, data.len(), s, store.len(), block) }
+    unsafe { sys::fbr_look_number(d, dir.len(), b, data.len(), s, store.len(), block) }
 }
 
 /// The length of the part that holds the block's present bytes; the part at the front of `out` if it fits there.
 #[inline]
 pub fn look_into(dir: &[u32], data: &[u8], store: &[u8], block: u32, out: &mut [u8]) -> usize {
     let (d, b, s) = (dir.as_ptr(), data.as_ptr(), store.as_ptr());
-    unsafe { ffi::fbr_look_into(d, dir.len(), b, data.len(), s, store.len(), block, out.as_mut_ptr(), out.len()) }
+    unsafe { sys::fbr_look_into(d, dir.len(), b, data.len(), s, store.len(), block, out.as_mut_ptr(), out.len()) }
 }
 
 /// Whether the directory is sound.
 pub fn sound(dir: &[u32]) -> bool {
-    match unsafe { ffi::fbr_sound(dir.as_ptr(), dir.len()) } {
+    match unsafe { sys::fbr_sound(dir.as_ptr(), dir.len()) } {
         0 => false,
         1 => true,
         other => panic!("fbr_sound returned {other}"),
     }
 }
 
+/// The totals at the front of `out`: reads, writes, ins, outs; 0, or 6 and four 0s, or 10 where `out` is too short.
+pub fn totals(dir: &[u32], out: &mut [u64]) -> u32 {
+    unsafe { sys::fbr_totals(dir.as_ptr(), dir.len(), out.as_mut_ptr(), out.len()) }
+}
+
 /// FNV-1a of a block number's four bytes, low byte first.
 pub fn hash(block: u32) -> u32 {
-    unsafe { ffi::fbr_hash(block) }
+    unsafe { sys::fbr_hash(block) }
 }
 
 /// The bucket count for `n` cache blocks; 0 for an `n` outside its limits.
 pub fn buckets(n: u32) -> u32 {
-    unsafe { ffi::fbr_buckets(n) }
+    unsafe { sys::fbr_buckets(n) }
 }
 
-/// Named settings (0 UNIX, 1 C51, 2 CUST11) at the front of `out`, in the order of the header; how many words were written.
+/// The words of a directory; 0 for an `n` or a `cmax` outside its limits.
+pub fn directory_words(n: u32, cmax: u32) -> u32 {
+    unsafe { sys::fbr_directory_words(n, cmax) }
+}
+
+/// Named settings (0 UNIX, 1 C51, 2 CUST11) at the front of `out`, in the order of the header; how many words were
+/// written.
 pub fn named(which: u32, n: u32, b: u32, m: u32, out: &mut [u32]) -> usize {
-    unsafe { ffi::fbr_named(which, n, b, m, out.as_mut_ptr(), out.len()) }
+    unsafe { sys::fbr_named(which, n, b, m, out.as_mut_ptr(), out.len()) }
 }

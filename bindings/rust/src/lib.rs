@@ -1,38 +1,39 @@
-//! A block cache with frequency-based replacement, over memory that the caller lends.
+//! A block cache with frequency-based replacement, over memory of its own ([`Cache`]) or lent ([`Memory`]).
 //!
-//! The cache itself is the proved static library; this crate gives its C interface Rust types. `docs/MANUAL.md` says
-//! what the settings, the words and the numbers mean.
+//! The cache itself is the proved static library; this crate gives its C interface ([`sys`]) Rust types.
+//! `docs/MANUAL.md` says what the settings, the words and the numbers mean.
 //!
 //! ```
-//! use fbr::{fresh, Answer, Memory, Settings, Work};
+//! use fbr::{Answer, Cache, Settings, Work};
 //!
 //! let settings = Settings::c51(100, 8, 1_000);
-//! let mut directory = vec![0; settings.directory_words()];
-//! let (mut data, mut store) = (vec![0; settings.data_bytes()], vec![0; settings.store_bytes()]);
-//! fresh(&settings, &mut directory)?;
-//! let mut memory = Memory { directory: &mut directory, data: &mut data, store: &mut store };
-//!
-//! let work = [Work::Write(7), Work::Read(7)].map(Work::word);
-//! let (mut answers, mut outgoing) = ([0; 2], [0; 8]);
-//! memory.batch(&work, b"8 bytes.", &mut answers, &mut outgoing)?;
-//! assert_eq!(Answer::from_word(answers[1]), Some(Answer::Hit { count: 1, halved: false }));
-//! assert_eq!(&outgoing, b"8 bytes.");
-//! assert_eq!(memory.look(7)?, b"8 bytes.");
+//! let mut cache = Cache::new(&settings, vec![0; settings.store_bytes()])?;
+//! let ran = cache.run(&[Work::Write(7), Work::Read(7)], b"8 bytes.")?;
+//! assert_eq!(ran.answers, [Answer::Entered { halved: false }, Answer::Hit { count: 1, halved: false }]);
+//! assert_eq!(ran.read, b"8 bytes.");
 //! # Ok::<(), fbr::Refusal>(())
 //! ```
+//!
+//! A call that declines changes nothing and says why by a [`Refusal`], which has a number. Nothing in this crate panics
+//! on what an archive returns: numbers and words that this version doesn't know are [`Refusal::Unknown`] and
+//! [`Answer::Unknown`].
 #![warn(missing_docs)]
 
+mod cache;
 mod memory;
 mod refusal;
 mod settings;
-mod sys;
+pub mod sys;
 #[cfg(test)]
 mod tests;
+mod totals;
 mod words;
 
-pub use memory::Memory;
+pub use cache::{Cache, NotTaken, Parts, Ran};
+pub use memory::{Memory, View};
 pub use refusal::Refusal;
 pub use settings::Settings;
+pub use totals::Totals;
 pub use words::{Answer, Work};
 
 /// Writes a fresh directory over the front of `directory`: no residents, totals 0. Earlier words don't matter, and

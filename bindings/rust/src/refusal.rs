@@ -2,35 +2,39 @@ use std::fmt;
 
 /// Why a call declined. A declined call has changed nothing.
 ///
-/// The cases are checked in this order. [`fresh`](crate::fresh) gives 1 to 5, a batch 6 to 11, a look 6, 7 or 9.
+/// The cases are checked in this order. [`fresh`](crate::fresh) gives 1 to 5, a batch 6 to 11, a look 6, 7 or 9, a look
+/// into a buffer 10 too.
 #[derive(Clone, Copy, Debug, PartialEq, Eq, Hash)]
+#[non_exhaustive]
 pub enum Refusal {
     /// 1: N is outside 1 to 4,096.
-    BadCacheSize = 1,
+    BadCacheSize,
     /// 2: Nold is 0, or Nnew + Nold exceeds N.
-    BadSections = 2,
+    BadSections,
     /// 3: Cmax is outside 1 to 64, or Amax outside 1 to 1,000.
-    BadCountLimit = 3,
+    BadCountLimit,
     /// 4: B is outside 1 to 4,096, or M outside 1 to 262,144.
-    BadBlockOrStoreSize = 4,
+    BadBlockOrStoreSize,
     /// 5: the directory has fewer than [`Settings::directory_words`](crate::Settings::directory_words) words.
-    ShortDirectory = 5,
+    ShortDirectory,
     /// 6: the directory is not sound.
-    Unsound = 6,
+    Unsound,
     /// 7: data has fewer than N × B bytes, or the store fewer than M × B.
-    ShortDataOrStore = 7,
+    ShortDataOrStore,
     /// 8: the batch has more than 1,024 work words.
-    TooManyWords = 8,
+    TooManyWords,
     /// 9: a work word's kind is outside 1 to 4, a block is M or more, or a flush has a value.
-    BadWord = 9,
-    /// 10: answers, incoming or outgoing is shorter than the batch needs.
-    ShortBuffer = 10,
+    BadWord,
+    /// 10: answers, incoming or outgoing is shorter than the batch needs, or a look's buffer shorter than B.
+    ShortBuffer,
     /// 11: reads + writes + batch length exceeds 2^56 − 1.
-    TotalsFull = 11,
+    TotalsFull,
+    /// A number that this crate doesn't know: the archive is of another version.
+    Unknown(u32),
 }
 
 impl Refusal {
-    /// All refusals, in the order of their numbers.
+    /// The refusals that this crate knows, in the order of their numbers.
     pub const ALL: [Refusal; 11] = [
         Refusal::BadCacheSize,
         Refusal::BadSections,
@@ -45,21 +49,40 @@ impl Refusal {
         Refusal::TotalsFull,
     ];
 
-    /// The number, 1 to 11, that the C interface returns.
+    /// The number that the C interface returns.
     pub const fn number(self) -> u32 {
-        self as u32
+        match self {
+            Refusal::BadCacheSize => 1,
+            Refusal::BadSections => 2,
+            Refusal::BadCountLimit => 3,
+            Refusal::BadBlockOrStoreSize => 4,
+            Refusal::ShortDirectory => 5,
+            Refusal::Unsound => 6,
+            Refusal::ShortDataOrStore => 7,
+            Refusal::TooManyWords => 8,
+            Refusal::BadWord => 9,
+            Refusal::ShortBuffer => 10,
+            Refusal::TotalsFull => 11,
+            Refusal::Unknown(number) => number,
+        }
     }
 
-    /// The refusal of a number; none for 0 and for 12 or more.
+    /// The refusal of a number; none for 0, which is no refusal.
+    ///
+    /// ```
+    /// use fbr::Refusal;
+    ///
+    /// assert_eq!(Refusal::from_number(0), None);
+    /// assert_eq!(Refusal::from_number(6), Some(Refusal::Unsound));
+    /// assert_eq!(Refusal::from_number(99), Some(Refusal::Unknown(99)));
+    /// ```
     pub fn from_number(number: u32) -> Option<Refusal> {
-        Refusal::ALL.into_iter().find(|refusal| refusal.number() == number)
+        let known = Refusal::ALL.into_iter().find(|refusal| refusal.number() == number);
+        known.or((number != 0).then_some(Refusal::Unknown(number)))
     }
-}
 
-/// The number and what is wrong, in one line.
-impl fmt::Display for Refusal {
-    fn fmt(&self, f: &mut fmt::Formatter<'_>) -> fmt::Result {
-        let text = match self {
+    const fn text(self) -> &'static str {
+        match self {
             Refusal::BadCacheSize => "N is outside 1 to 4,096",
             Refusal::BadSections => "Nold is 0, or Nnew + Nold exceeds N",
             Refusal::BadCountLimit => "Cmax is outside 1 to 64, or Amax outside 1 to 1,000",
@@ -69,10 +92,17 @@ impl fmt::Display for Refusal {
             Refusal::ShortDataOrStore => "data is shorter than N x B bytes, or the store shorter than M x B",
             Refusal::TooManyWords => "the batch has more than 1,024 work words",
             Refusal::BadWord => "a work word has a wrong kind, a block of M or more, or a flush with a value",
-            Refusal::ShortBuffer => "answers, incoming or outgoing is shorter than the batch needs",
+            Refusal::ShortBuffer => "answers, incoming, outgoing or a look's buffer is too short",
             Refusal::TotalsFull => "reads + writes + batch length exceeds 2^56 - 1",
-        };
-        write!(f, "{}: {text}", self.number())
+            Refusal::Unknown(_) => "unknown to this crate, so the archive is of another version",
+        }
+    }
+}
+
+/// The number and what is wrong, in one line.
+impl fmt::Display for Refusal {
+    fn fmt(&self, f: &mut fmt::Formatter<'_>) -> fmt::Result {
+        write!(f, "{}: {}", self.number(), self.text())
     }
 }
 
@@ -80,9 +110,5 @@ impl std::error::Error for Refusal {}
 
 /// The outcome of a call from the number it returned.
 pub(crate) fn outcome(number: u32) -> Result<(), Refusal> {
-    match Refusal::from_number(number) {
-        Some(refusal) => Err(refusal),
-        None if number == 0 => Ok(()),
-        None => panic!("the library returned the unknown number {number}"),
-    }
+    Refusal::from_number(number).map_or(Ok(()), Err)
 }

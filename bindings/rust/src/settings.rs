@@ -41,17 +41,24 @@ impl Settings {
         let mut out = [0; 7];
         // SAFETY: `out` is a slice of its own for the length of the call.
         let written = unsafe { sys::fbr_named(which, n, b, m, out.as_mut_ptr(), out.len()) };
-        assert_eq!(written, out.len(), "the library does not know the named settings {which}");
-        let [n, nnew, nold, cmax, amax, b, m] = out;
+        // an archive that doesn't know the name leaves them 0, and `fresh` declines such settings
+        Settings::from_words(if written == out.len() { out } else { [0; 7] })
+    }
+
+    /// The settings of seven numbers in the order of the directory's first words.
+    pub(crate) fn from_words([n, nnew, nold, cmax, amax, b, m]: [u32; 7]) -> Settings {
         Settings { n, nnew, nold, cmax, amax, b, m }
     }
 
-    /// The words that the directory needs: 24 + 2 × Cmax + buckets + 9 × N.
+    /// The words that the directory needs: 24 + 2 × Cmax + buckets + 9 × N; 0 where N or Cmax is outside its limits.
+    ///
+    /// ```
+    /// assert_eq!(fbr::Settings::unix(512, 4_096, 65_536).directory_words(), 5_160);
+    /// assert_eq!(fbr::Settings::unix(0, 4_096, 65_536).directory_words(), 0);
+    /// ```
     pub fn directory_words(&self) -> usize {
         // SAFETY: numbers only.
-        let buckets = unsafe { sys::fbr_buckets(self.n) };
-        let entries = (self.n as usize).saturating_mul(9);
-        (self.cmax as usize).saturating_mul(2).saturating_add(entries).saturating_add(buckets as usize + 24)
+        unsafe { sys::fbr_directory_words(self.n, self.cmax) as usize }
     }
 
     /// The bytes that the data buffer needs: N × B.

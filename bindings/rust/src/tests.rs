@@ -1,25 +1,26 @@
-use crate::{fresh, sound, Answer, Memory, Refusal, Settings, Work};
+use crate::refusal::outcome;
+use crate::{fresh, sound, Answer, Memory, Refusal, Settings, Totals, Work};
+
+mod cache;
 
 const BELT: Settings = Settings { n: 4, nnew: 1, nold: 2, cmax: 3, amax: 100, b: 8, m: 64 };
 const ONE: Settings = Settings { n: 1, nnew: 0, nold: 1, cmax: 1, amax: 10, b: 8, m: 64 };
 const ENTERED: Answer = Answer::Entered { halved: false };
 
-/// A fresh cache over memory of its own; block k of the store is all k.
-struct Cache {
+/// A fresh cache over lent memory; block k of the store is all k.
+struct Lent {
     b: usize,
     directory: Vec<u32>,
     data: Vec<u8>,
     store: Vec<u8>,
 }
 
-impl Cache {
-    fn new(s: Settings) -> Cache {
+impl Lent {
+    fn new(s: Settings) -> Lent {
         let mut directory = vec![0xdead_beef; s.directory_words()];
         assert_eq!(fresh(&s, &mut directory), Ok(()));
         assert!(sound(&directory));
-        let b = s.b as usize;
-        let store = (0..s.store_bytes()).map(|i| (i / b) as u8).collect();
-        Cache { b, directory, data: vec![0; s.data_bytes()], store }
+        Lent { b: s.b as usize, directory, data: vec![0; s.data_bytes()], store: numbered_store(s) }
     }
     fn memory(&mut self) -> Memory<'_> {
         Memory { directory: &mut self.directory, data: &mut self.data, store: &mut self.store }
@@ -33,16 +34,19 @@ impl Cache {
         self.memory().batch(&words, &incoming, &mut answers, &mut outgoing)?;
         assert!(sound(&self.directory));
         outgoing.truncate(b * work.iter().filter(|w| matches!(w, Work::Read(_))).count());
-        Ok((answers.iter().map(|&word| Answer::from_word(word).unwrap()).collect(), outgoing))
+        Ok((answers.into_iter().map(Answer::from_word).collect(), outgoing))
     }
     fn answers(&mut self, work: &[Work]) -> Vec<Answer> {
         self.run(work).unwrap().0
     }
-    /// Reads, writes, ins and outs.
-    fn totals(&self) -> [u64; 4] {
-        let value = |i: usize| u64::from(self.directory[i] & 0x0fff_ffff);
-        [16, 18, 20, 22].map(|i| value(i) + (value(i + 1) << 28))
+    fn totals(&mut self) -> Totals {
+        self.memory().totals().unwrap()
     }
+}
+
+/// Block k is all k.
+fn numbered_store(s: Settings) -> Vec<u8> {
+    (0..s.store_bytes()).map(|i| (i / s.b as usize) as u8).collect()
 }
 
 fn reads(blocks: &[u32]) -> Vec<Work> {
@@ -54,18 +58,18 @@ fn hit(count: u32) -> Answer {
 
 #[test]
 fn example_a() {
-    let mut belt = Cache::new(BELT);
+    let mut belt = Lent::new(BELT);
     let (answers, outgoing) = belt.run(&reads(&[10, 11, 12, 13, 10, 10, 14])).unwrap();
     let last = Answer::Replaced { victim: 11, chains: 1, written_out: false };
     assert_eq!(answers, [ENTERED, ENTERED, ENTERED, ENTERED, hit(2), hit(2), last]);
     let expected: Vec<u8> = [10, 11, 12, 13, 10, 10, 14].iter().flat_map(|&block| [block; 8]).collect();
     assert_eq!(outgoing, expected);
-    assert_eq!(belt.totals(), [7, 0, 5, 0]);
+    assert_eq!(belt.totals(), Totals { reads: 7, writes: 0, ins: 5, outs: 0 });
 }
 
 #[test]
 fn example_c() {
-    let mut two = Cache::new(Settings { n: 2, nnew: 0, nold: 1, cmax: 1, amax: 1, b: 8, m: 64 });
+    let mut two = Lent::new(Settings { n: 2, nnew: 0, nold: 1, cmax: 1, amax: 1, b: 8, m: 64 });
     let answers = two.answers(&reads(&[0, 0, 0]));
     assert_eq!(answers, [ENTERED, hit(2), Answer::Hit { count: 3, halved: true }]);
     // the count left is 2
@@ -74,16 +78,17 @@ fn example_c() {
 
 #[test]
 fn example_e() {
-    let mut one = Cache::new(ONE);
+    let mut one = Lent::new(ONE);
     let replaced = Answer::Replaced { victim: 3, chains: 1, written_out: true };
     assert_eq!(one.answers(&[Work::Write(3), Work::Read(5)]), [ENTERED, replaced]);
-    assert_eq!(one.totals(), [1, 1, 1, 1]);
+    assert_eq!(one.totals(), Totals { reads: 1, writes: 1, ins: 1, outs: 1 });
+    assert_eq!(one.totals().miss_ratio(), Some(1.0));
     assert_eq!(one.store[24..32], [101; 8]);
 }
 
 #[test]
 fn example_f() {
-    let mut one = Cache::new(ONE);
+    let mut one = Lent::new(ONE);
     let answers = one.answers(&[Work::Write(3), Work::Purge(3), Work::Purge(3)]);
     assert_eq!(answers, [ENTERED, Answer::Purged { discarded: true }, Answer::Absent]);
     assert_eq!(one.memory().look(3).unwrap(), [3; 8]);
@@ -91,7 +96,7 @@ fn example_f() {
 
 #[test]
 fn looks_after_writes() {
-    let mut belt = Cache::new(BELT);
+    let mut belt = Lent::new(BELT);
     belt.answers(&[Work::Write(3), Work::Write(4), Work::Write(3)]);
     let before = (belt.directory.clone(), belt.data.clone(), belt.store.clone());
     let memory = belt.memory();
@@ -102,8 +107,9 @@ fn looks_after_writes() {
         assert_eq!(memory.look_into(block, &mut long), Ok(8));
         assert_eq!((long[..8].to_vec(), &long[8..]), (vec![byte; 8], &[0, 0][..]));
         let mut short = [9; 7];
-        assert_eq!(memory.look_into(block, &mut short), Ok(8));
+        assert_eq!(memory.look_into(block, &mut short), Err(Refusal::ShortBuffer));
         assert_eq!(short, [9; 7]);
+        assert_eq!(memory.look_into(block, &mut []), Err(Refusal::ShortBuffer));
     }
     assert_eq!((belt.directory.clone(), belt.data.clone(), belt.store.clone()), before);
     // the store has the written bytes after a flush, and a second flush has nothing to do
@@ -137,7 +143,7 @@ fn numbers_1_to_5() {
 
 #[test]
 fn numbers_6_to_11() {
-    let number = |cache: &mut Cache, work: &[u32], incoming: usize, answers: usize, outgoing: usize| {
+    let number = |cache: &mut Lent, work: &[u32], incoming: usize, answers: usize, outgoing: usize| {
         let before = (cache.directory.clone(), cache.data.clone(), cache.store.clone());
         let (mut answers, mut outgoing) = (vec![7; answers], vec![7; outgoing]);
         let refusal = cache.memory().batch(work, &vec![1; incoming], &mut answers, &mut outgoing).unwrap_err();
@@ -145,7 +151,7 @@ fn numbers_6_to_11() {
         assert!(answers.iter().all(|&word| word == 7) && outgoing.iter().all(|&byte| byte == 7));
         refusal.number()
     };
-    let mut belt = Cache::new(BELT);
+    let mut belt = Lent::new(BELT);
     let work = [Work::Write(1), Work::Read(2)].map(Work::word);
 
     for incoming_answers_outgoing in [[7, 2, 8], [8, 1, 8], [8, 2, 7], [0, 0, 0]] {
@@ -182,17 +188,21 @@ fn numbers_6_to_11() {
     assert!(!sound(&belt.directory));
     assert_eq!(number(&mut belt, &work, 8, 2, 8), 6);
     assert_eq!(belt.memory().look(1), Err(Refusal::Unsound));
-    assert_eq!(belt.memory().look_into(1, &mut [0; 8]), Err(Refusal::Unsound));
+    for mut out in [vec![0; 8], vec![]] {
+        assert_eq!(belt.memory().look_into(1, &mut out), Err(Refusal::Unsound));
+    }
+    assert_eq!(belt.memory().totals(), Err(Refusal::Unsound));
+    assert_eq!(belt.memory().settings(), Err(Refusal::Unsound));
     assert!(!sound(&[]));
 }
 
 /// The present bytes of all blocks.
-fn all_blocks(cache: &mut Cache) -> Vec<u8> {
+fn all_blocks(cache: &mut Lent) -> Vec<u8> {
     let memory = cache.memory();
     (0..BELT.m).flat_map(|block| memory.look(block).unwrap()).collect()
 }
-fn written_belt() -> Cache {
-    let mut belt = Cache::new(BELT);
+fn written_belt() -> Lent {
+    let mut belt = Lent::new(BELT);
     let writes = [3, 4, 5, 6, 7, 3].map(Work::Write);
     belt.answers(&writes);
     belt
@@ -202,7 +212,7 @@ fn written_belt() -> Cache {
 fn kept_memory_goes_on() {
     let mut belt = written_belt();
     let (directory, data, store) = (belt.directory.clone(), belt.data.clone(), belt.store.clone());
-    let mut kept = Cache { b: belt.b, directory, data, store };
+    let mut kept = Lent { b: belt.b, directory, data, store };
     let work = [reads(&[3, 20, 7]), vec![Work::Write(9), Work::Flush]].concat();
     assert_eq!(kept.run(&work), belt.run(&work));
     assert_eq!(all_blocks(&mut kept), all_blocks(&mut belt));
@@ -240,9 +250,42 @@ fn refusals_and_their_numbers() {
         assert_eq!(Refusal::from_number(refusal.number()), Some(refusal));
         assert!(refusal.to_string().starts_with(&format!("{}: ", i + 1)));
     }
-    for number in [0, 12, u32::MAX] {
-        assert_eq!(Refusal::from_number(number), None);
+    assert_eq!(Refusal::from_number(0), None);
+    assert_eq!(outcome(0), Ok(()));
+    assert_eq!(outcome(6), Err(Refusal::Unsound));
+}
+
+#[test]
+fn unknown_numbers() {
+    for number in [99, 1_000, u32::MAX] {
+        let unknown = Refusal::Unknown(number);
+        assert_eq!(Refusal::from_number(number), Some(unknown));
+        assert_eq!(outcome(number), Err(unknown));
+        assert_eq!(unknown.number(), number);
+        assert!(unknown.to_string().starts_with(&format!("{number}: ")));
     }
+}
+
+#[test]
+fn settings_of_a_directory() {
+    let largest = Settings { n: 4_096, nnew: 1_024, nold: 2_457, cmax: 64, amax: 1_000, b: 1, m: 262_144 };
+    for s in [BELT, ONE, largest, Settings::unix(100, 3, 200)] {
+        let mut lent = Lent::new(s);
+        assert_eq!(lent.memory().settings(), Ok(s));
+        assert_eq!(lent.totals(), Totals::default());
+        assert_eq!(lent.totals().miss_ratio(), None);
+    }
+    let none = Memory { directory: &mut [], data: &mut [], store: &mut [] };
+    assert_eq!((none.settings(), none.totals()), (Err(Refusal::Unsound), Err(Refusal::Unsound)));
+    assert_eq!(none.look(0), Err(Refusal::Unsound));
+}
+
+#[test]
+fn miss_ratios() {
+    let most = u64::MAX;
+    assert_eq!(Totals { reads: most, writes: most, ins: most, outs: most }.miss_ratio(), Some(1.0));
+    assert_eq!(Totals { reads: 0, writes: 4, ins: 0, outs: 1 }.miss_ratio(), Some(0.25));
+    assert_eq!(Totals { reads: 0, writes: 0, ins: 3, outs: 1 }.miss_ratio(), None);
 }
 
 #[test]
@@ -258,6 +301,9 @@ fn named_settings_and_sizes() {
     assert_eq!(largest.directory_words(), 41_112);
     assert_eq!((largest.data_bytes(), largest.store_bytes()), (16_777_216, 1_073_741_824));
     assert_eq!(BELT.directory_words(), 70);
+    for outside in [Settings { n: 4_097, ..BELT }, Settings { cmax: 0, ..BELT }, Settings { cmax: u32::MAX, ..BELT }] {
+        assert_eq!(outside.directory_words(), 0);
+    }
     assert_eq!(fresh(&largest, &mut vec![0; 41_112]), Ok(()));
 }
 
@@ -274,9 +320,10 @@ fn answer_words() {
         (6, 4_096, Answer::Flushed { written: 4_096 }),
     ];
     for (kind, value, answer) in cases {
-        assert_eq!(Answer::from_word(kind << 28 | value), Some(answer));
+        assert_eq!(Answer::from_word(kind << 28 | value), answer);
     }
     for (kind, value) in [(0, 0), (1, 1 << 27), (2, 1), (3, 1 << 26), (4, 2), (5, 1), (7, 0), (15, 0)] {
-        assert_eq!(Answer::from_word(kind << 28 | value), None, "{kind} {value}");
+        let word = kind << 28 | value;
+        assert_eq!(Answer::from_word(word), Answer::Unknown(word), "{kind} {value}");
     }
 }

@@ -3,6 +3,7 @@ pub(crate) const MAX_VALUE: u32 = (1 << 28) - 1;
 
 /// One work word: the kind in the top 4 bits, the value in the low 28.
 #[derive(Clone, Copy, Debug, PartialEq, Eq, Hash)]
+#[non_exhaustive]
 pub enum Work {
     /// Read a block into the next B bytes of outgoing.
     Read(u32),
@@ -29,6 +30,7 @@ impl Work {
 
 /// One answer word. A batch gives one for each work word.
 #[derive(Clone, Copy, Debug, PartialEq, Eq, Hash)]
+#[non_exhaustive]
 pub enum Answer {
     /// The block was in the cache.
     Hit {
@@ -63,14 +65,23 @@ pub enum Answer {
         /// How many blocks were written to the store.
         written: u32,
     },
+    /// A word that this crate doesn't know, as it is: the archive is of another version.
+    Unknown(u32),
 }
 
 impl Answer {
-    /// What an answer word says; none for a word that no batch gives.
-    pub const fn from_word(word: u32) -> Option<Answer> {
+    /// What an answer word says.
+    ///
+    /// ```
+    /// use fbr::Answer;
+    ///
+    /// assert_eq!(Answer::from_word(0x1000_0003), Answer::Hit { count: 3, halved: false });
+    /// assert_eq!(Answer::from_word(0xf000_0000), Answer::Unknown(0xf000_0000));
+    /// ```
+    pub const fn from_word(word: u32) -> Answer {
         let (kind, value) = (word >> 28, word & MAX_VALUE);
         let halved = value >> 26 == 1;
-        Some(match kind {
+        match kind {
             1 if value >> 27 == 0 => Answer::Hit { count: value % (1 << 26), halved },
             2 if value == 0 || value == 1 << 26 => Answer::Entered { halved },
             3 if value >> 26 == 0 => Answer::Replaced {
@@ -81,7 +92,7 @@ impl Answer {
             4 if value <= 1 => Answer::Purged { discarded: value == 1 },
             5 if value == 0 => Answer::Absent,
             6 => Answer::Flushed { written: value },
-            _ => return None,
-        })
+            _ => Answer::Unknown(word),
+        }
     }
 }
