@@ -82,7 +82,7 @@ static inline const char *fbr_number_text(uint32_t number) {
     case FBR_SHORT_DATA_OR_STORE: return "data is shorter than N x B bytes, or the store shorter than M x B";
     case FBR_TOO_MANY_WORDS: return "the batch has more than 1,024 work words";
     case FBR_BAD_WORD: return "a work word has a wrong kind, a block of M or more, or a flush with a value";
-    case FBR_SHORT_BUFFER: return "answers, incoming, outgoing or a look's buffer is too short";
+    case FBR_SHORT_BUFFER: return "a buffer is too short: answers, incoming, outgoing or out";
     case FBR_TOTALS_FULL: return "reads + writes + batch length exceeds 2^56 - 1";
     default: return "not a number of this library";
     }

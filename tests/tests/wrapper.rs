@@ -1,5 +1,5 @@
 //! The Rust wrapper in `bindings/rust` beside the plain stack: numbers, words, bytes, looks, totals and settings, over
-//! lent memory and over a cache that owns its memory. Its raw declarations beside the header.
+//! lent memory and over a cache that owns its memory.
 use cache_tests::reference::beside::{self, Tested};
 use cache_tests::reference::directory::{kind, value, word};
 use cache_tests::reference::histories;
@@ -8,9 +8,7 @@ use cache_tests::reference::settings::{directory_length, named, Profile, MAX_CMA
 use cache_tests::reference::stack::{answer, work, PlainStack};
 use cache_tests::{Settings, BELT};
 use fbr::{Answer, Cache, Memory, NotTaken, Parts, Refusal, Totals, Work};
-use std::fs;
 use std::hint::black_box;
-use std::path::Path;
 
 const WRAPPER: Tested = Tested { fresh, batch, sound: fbr::sound, look };
 
@@ -331,51 +329,4 @@ fn named_settings_and_directory_lengths() {
             }
         }
     }
-}
-
-fn file(path: &str) -> String {
-    let path = Path::new(env!("CARGO_MANIFEST_DIR")).join("..").join(path);
-    fs::read_to_string(&path).unwrap_or_else(|e| panic!("{}: {e}", path.display()))
-}
-
-/// The text without its C comments, and with single spaces.
-fn bare(text: &str) -> String {
-    let kept = text.split("/*").map(|part| part.split_once("*/").map_or(part, |(_, after)| after));
-    kept.collect::<String>().split_whitespace().collect::<Vec<_>>().join(" ")
-}
-
-/// The name of a C declaration, and its type in Rust: of `const uint8_t *data`, `data` and `*const u8`.
-fn in_rust(declaration: &str) -> (&str, &'static str) {
-    let declaration = declaration.trim();
-    let at = declaration.rfind([' ', '*']).unwrap() + 1;
-    let (c_type, name) = declaration.split_at(at);
-    let rust_type = match c_type.trim() {
-        "uint32_t" => "u32",
-        "size_t" => "usize",
-        "const uint32_t *" => "*const u32",
-        "const uint8_t *" => "*const u8",
-        "uint32_t *" => "*mut u32",
-        "uint8_t *" => "*mut u8",
-        "uint64_t *" => "*mut u64",
-        other => panic!("type {other}"),
-    };
-    (name, rust_type)
-}
-
-/// Each prototype of the header stands among the raw declarations: name, parameters and types.
-#[test]
-fn the_raw_declarations_are_the_headers() {
-    let header = bare(&file("include/fbr.h"));
-    let raw = bare(&file("bindings/rust/src/sys.rs")).replace("( ", "(").replace(", )", ")");
-    let mut prototypes = 0;
-    for statement in header.split(';').filter(|statement| statement.trim_end().ends_with(')')) {
-        let Some((head, parameters)) = statement.trim_end_matches(')').split_once("(") else { continue };
-        let (name, returned) = in_rust(head);
-        let parameters = parameters.split(',').map(in_rust).map(|(name, of_type)| format!("{name}: {of_type}"));
-        let parameters: Vec<String> = parameters.collect();
-        let declaration = format!("pub fn {name}({}) -> {returned};", parameters.join(", "));
-        assert!(raw.contains(&declaration), "{declaration}");
-        prototypes += 1;
-    }
-    assert!(prototypes >= 8, "{prototypes} prototypes in the header");
 }

@@ -35,7 +35,7 @@ pub enum Refusal {
 
 impl Refusal {
     /// The refusals that this crate knows, in the order of their numbers.
-    pub const ALL: [Refusal; 11] = [
+    pub const ALL: &'static [Refusal] = &[
         Refusal::BadCacheSize,
         Refusal::BadSections,
         Refusal::BadCountLimit,
@@ -77,7 +77,7 @@ impl Refusal {
     /// assert_eq!(Refusal::from_number(99), Some(Refusal::Unknown(99)));
     /// ```
     pub fn from_number(number: u32) -> Option<Refusal> {
-        let known = Refusal::ALL.into_iter().find(|refusal| refusal.number() == number);
+        let known = Refusal::ALL.iter().copied().find(|refusal| refusal.number() == number);
         known.or((number != 0).then_some(Refusal::Unknown(number)))
     }
 
@@ -92,7 +92,7 @@ impl Refusal {
             Refusal::ShortDataOrStore => "data is shorter than N x B bytes, or the store shorter than M x B",
             Refusal::TooManyWords => "the batch has more than 1,024 work words",
             Refusal::BadWord => "a work word has a wrong kind, a block of M or more, or a flush with a value",
-            Refusal::ShortBuffer => "answers, incoming, outgoing or a look's buffer is too short",
+            Refusal::ShortBuffer => "a buffer is too short: answers, incoming, outgoing or out",
             Refusal::TotalsFull => "reads + writes + batch length exceeds 2^56 - 1",
             Refusal::Unknown(_) => "unknown to this crate, so the archive is of another version",
         }

@@ -245,7 +245,7 @@ fn looks_save_a_full_cache() {
 
 #[test]
 fn refusals_and_their_numbers() {
-    for (i, refusal) in Refusal::ALL.into_iter().enumerate() {
+    for (i, refusal) in Refusal::ALL.iter().copied().enumerate() {
         assert_eq!(refusal.number(), i as u32 + 1);
         assert_eq!(Refusal::from_number(refusal.number()), Some(refusal));
         assert!(refusal.to_string().starts_with(&format!("{}: ", i + 1)));
