@@ -20,11 +20,12 @@ total-at-requires-4 c κs = search needs
 
 returns : tie.Need-returns
 unfolding totalsIn
-returns c =
-    (c .before .before .before .total-at .ensures,
-    c .before .before .total-at2 .ensures,
-    c .before .total-at3 .ensures,
-    c .total-at4 .ensures)
+returns c = (
+  c .before .before .before .total-at .ensures,
+  c .before .before .total-at2 .ensures,
+  c .before .total-at3 .ensures,
+  c .total-at4 .ensures,
+)
 
 pub totals-in-spec : {M : Type 1} → statement M
 totals-in-spec =
