@@ -1,8 +1,8 @@
 """Writes the table under "## The crates" in docs/ARCHITECTURE.md from crates.txt and the files of each crate.
 
-python3 scripts/crates_table.py                the seconds stay as the page has them
-python3 scripts/crates_table.py --times LOG    the seconds come from the log of a gate run, from lines `rt: NAME proved (N s)`
-python3 scripts/crates_table.py --check        exits 1 where the page's table differs from the tree; seconds are not compared
+python3 scripts/crates_table.py                keeps the seconds that the page has
+python3 scripts/crates_table.py --times LOG    takes them from the log of a gate run: lines `rt: NAME proved (N s)`
+python3 scripts/crates_table.py --check        exits 1 where the page's table differs from the tree, seconds apart
 """
 import argparse
 import difflib
@@ -49,7 +49,8 @@ def without_seconds(text):
 
 
 def differences(old, new):
-    return list(difflib.unified_diff(without_seconds(old), without_seconds(new), "the page", "the tree", n=0, lineterm=""))
+    old, new = without_seconds(old), without_seconds(new)
+    return list(difflib.unified_diff(old, new, "the page", "the tree", n=0, lineterm=""))
 
 
 def arguments():

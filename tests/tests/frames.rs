@@ -1,4 +1,4 @@
-//! How much stack a call takes, read off the disassembly of the archive: an upper bound along the deepest chain of calls.
+//! How much stack a call takes, read off the disassembly of the archive: a bound along the deepest chain of calls.
 //! What memmove and memset take themselves is the C library's.
 use std::collections::BTreeMap;
 use std::process::Command;
