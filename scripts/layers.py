@@ -9,7 +9,7 @@ from math import fsum
 import crates
 
 PICTURE = crates.ROOT / "docs" / "layers.svg"
-WIDTH, MARGIN, LABELS, CAPTION = 1200, 20, 210, 62  # LABELS: width of the column of headings
+WIDTH, MARGIN, LABELS, CAPTION = 1200, 20, 168, 62  # LABELS: width of the column of headings
 BOX_WIDTH, BOX_HEIGHT, ROW, PAD, GAP, SPACE = 112, 30, 62, 18, 10, 24
 # one for each layer from the bottom: the band; its headings, borders and the lines to its crates
 COLOURS = [("#f1f0ec", "#77735f"), ("#eaf1fa", "#3d70ad"), ("#eaf5ec", "#33804f"), ("#fdf2e3", "#b06d12"),
@@ -162,8 +162,8 @@ def text(x, y, size, words, more):
 
 def band(heading, colour, top, bottom):
     title, _, rest = heading.partition(":")
-    lines = [(15, part, f'font-weight="bold" fill="{colour[1]}"') for part in textwrap.wrap(title, 22)]
-    lines += [(13, part, 'fill="#555555"') for part in textwrap.wrap(rest.strip(), 27)]
+    lines = [(15, part, f'font-weight="bold" fill="{colour[1]}"') for part in textwrap.wrap(title, 16)]
+    lines += [(13, part, 'fill="#555555"') for part in textwrap.wrap(rest.strip(), 21)]
     y = (top + bottom) / 2 - 9 * (len(lines) - 1) + 5
     return [f'<rect x="{MARGIN}" y="{top}" width="{WIDTH - 2 * MARGIN}" height="{bottom - top}" rx="10" '
             f'fill="{colour[0]}"/>'] + [text(MARGIN + 16, y + 18 * i, *part) for i, part in enumerate(lines)]

@@ -1,5 +1,5 @@
-//! What is written beside the code agrees with it: the picture and the table drawn from crates.txt, the dependencies that
-//! crates.txt lists, and the paths and links of the pages.
+//! What is written beside the code agrees with it: the picture and the table drawn from crates.txt, the dependencies it
+//! lists, and the paths and links of the pages.
 use std::collections::{BTreeMap, BTreeSet};
 use std::fs;
 use std::path::{Path, PathBuf};

@@ -1,4 +1,4 @@
-//! What one batch costs, by its length: microseconds of the batch, nanoseconds of a word, and the share of the check that
+//! What one batch costs, by its length: microseconds of the batch, nanoseconds of a word, the share of the check that
 //! every batch begins with, which is what a batch without words takes.
 //! Run with `cargo run --release --bin bench_small_batches`.
 use cache_tests::reference::directory::{header, value, word};
