@@ -129,6 +129,23 @@ fn with_256_buckets_every_flip_of_a_block_is_seen() {
     assert_eq!(counts["block of an entry"], (129 * 32, 0));
 }
 
+/// Of the settings, a flip of B or M that stays sound makes them larger here: data or store is then too short, number 7.
+#[test]
+fn a_flip_of_the_sizes_asks_for_longer_memory() {
+    let mut cache = full(64);
+    let mut refused = 0;
+    for (address, bit) in [header::B, header::M].into_iter().flat_map(|address| (0..32).map(move |bit| (address, bit)))
+    {
+        let mut dir = cache.dir.clone();
+        dir[address] ^= 1 << bit;
+        if sound(&dir) {
+            assert_eq!(batch(&mut dir, &mut cache.data, &mut cache.store, &[], &[], &mut [], &mut []), 7);
+            refused += 1;
+        }
+    }
+    assert_eq!(refused, 11 + 17);
+}
+
 /// A flip that stays sound, and what then happens: the bytes of one block are taken for another's.
 #[test]
 fn a_flip_that_stays_sound_hands_out_the_wrong_bytes() {
