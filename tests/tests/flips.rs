@@ -129,7 +129,7 @@ fn with_256_buckets_every_flip_of_a_block_is_seen() {
     assert_eq!(counts["block of an entry"], (129 * 32, 0));
 }
 
-/// Of the settings, a flip of B or M that stays sound makes them larger here: data or store is then too short, number 7.
+/// A flip of B or M that stays sound makes it larger here: data or store is then too short, number 7.
 #[test]
 fn a_flip_of_the_sizes_asks_for_longer_memory() {
     let mut cache = full(64);
