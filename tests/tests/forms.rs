@@ -1,4 +1,4 @@
-//! The forms that document 01 names stand where docs/DECISIONS.md says: this reads the sources.
+//! The forms that the scope names stand where docs/DECISIONS.md says: this reads the sources.
 use std::fs;
 use std::path::{Path, PathBuf};
 
@@ -101,26 +101,36 @@ fn a_look_returns_a_part_of_one_of_two_slices() {
     assert!(looks.contains("pub fn look<'a>(dir: &[u32], bytes: &'a [u8], store: &'a [u8], block: u32) -> &'a [u8]"));
 }
 
-/// The cache cites the directory's promises, what it asks for and the layout; nothing of what is under the directory, and no statement of
-/// the directory's own.
+/// What crates.txt lists for a crate: the checker refuses a file that names any other.
+fn listed(name: &str) -> Vec<String> {
+    let list = fs::read_to_string(root().join("crates.txt")).unwrap();
+    let line = list.lines().find_map(|line| line.strip_prefix(&format!("{name}:")));
+    line.unwrap_or_else(|| panic!("no crate {name}")).split_whitespace().map(String::from).collect()
+}
+
+/// The cache relies on the directory's promises: its crates can name nothing of what is under the directory, they use no address of a
+/// link, and no statement of the directory's own.
 #[test]
 fn the_cache_never_sees_a_link() {
     let under = [
         "operations", "word_ops", "linkage", "links", "check_model", "lists", "search", "values", "stack_moves",
         "count_moves", "bucket_moves", "misses", "totals", "purging", "halving",
     ];
+    let links = [
+        "HEAD", "TAIL", "NEW_BOUNDARY", "OLD_BOUNDARY", "UNUSED", "TO_HEAD", "TO_TAIL", "CHAIN_TO_HEAD",
+        "CHAIN_TO_TAIL", "NEXT_SYNONYM",
+    ];
+    let layout = source("layout/src/lib.rt");
+    assert!(links.iter().all(|link| layout.contains(&format!("pub const {link}: u32"))));
     for name in ["cache_steps", "flushing", "accesses", "cache", "looks"] {
+        let listed = listed(name);
+        assert!(under.iter().all(|part| !listed.iter().any(|crate_listed| crate_listed == part)), "{name}: {listed:?}");
         for path in files(&root().join("crates").join(name)) {
             let text = fs::read_to_string(&path).unwrap();
-            for part in under {
-                let cited = text.contains(&format!("Rattle.{part}.")) || text.contains(&format!("{part}::"));
-                assert!(!cited, "{} cites {part}", path.display());
-            }
-            assert!(
-                !text.contains("Rattle.directory.specs"),
-                "{} cites the directory's own statements",
-                path.display()
-            );
+            let address = links.iter().find(|link| text.contains(&format!("layout::{link}")));
+            assert!(address.is_none() && !text.contains("layout.specs.Addresses"), "{}: {address:?}", path.display());
+            let own = text.contains("Rattle.directory.specs");
+            assert!(!own, "{} cites the directory's own statements", path.display());
         }
     }
 }
@@ -142,7 +152,7 @@ fn entry_points_have_no_requires() {
     }
     let exports = source("fbr/src/lib.rt");
     let exported = exports.matches("#[no_mangle]").count();
-    assert_eq!(exported, 8);
+    assert_eq!(exported, 10);
     for part in exports.split("#[no_mangle]").skip(1) {
         let head = &part[..part.find("\n{").unwrap()];
         assert!(head.contains("ensures") && !head.contains("requires"), "{head}");
