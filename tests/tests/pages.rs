@@ -35,6 +35,19 @@ fn the_table_of_the_crates_is_the_trees() {
     check("scripts/crates_table.py");
 }
 
+/// README's first command, as it stands there: example a, and the day compared with its lines.
+#[test]
+fn the_first_command_of_the_readme() {
+    let readme = read(&root().join("README.md"));
+    let from = readme.find("    rt check").expect("no command begins with rt check");
+    let command = readme[from..].split("\n\n").next().unwrap();
+    let output = Command::new("bash").args(["-c", command]).current_dir(root()).output().unwrap();
+    let said = String::from_utf8(output.stdout).unwrap();
+    assert!(output.status.success(), "{said}{}", String::from_utf8_lossy(&output.stderr));
+    assert!(said.starts_with("2 0\n2 0\n2 0\n2 0\n1 2\n1 2\n3 262155\ntotal 5 7\n"), "{said}");
+    assert_eq!(said.lines().count(), 9, "{said}");
+}
+
 /// README.md, CONTRIBUTING.md, CHANGELOG.md and docs/*.md, those that exist.
 fn pages() -> Vec<PathBuf> {
     let named = ["README.md", "CONTRIBUTING.md", "CHANGELOG.md"].map(|name| root().join(name));
