@@ -3,12 +3,13 @@
  *
  * Every call works on memory that the caller lends for the length of the call. Nothing is kept between calls,
  * nothing is allocated and nothing is freed: directory, data and store are the caller's, and the whole state of a
- * cache stands in them. Slices pass as a pointer and an element count: 32-bit words for directory, work and answers,
- * bytes for data, store, incoming and outgoing. A pointer must not be null and must be aligned for its elements,
+ * cache stands in them. Slices pass as a pointer and an element count: 32-bit words for directory, work, answers and
+ * settings, 64-bit numbers for totals, bytes for data, store, incoming and outgoing. A pointer must not be null and must be aligned for its elements,
  * also where the count is 0: fbr_no_bytes and fbr_no_words give pointers for that. Slices that one call may write to
- * must not overlap any other slice of that call. Calls over the same memory must not run at the same time.
+ * must not overlap any other slice of that call. Nothing may run beside fbr_batch or fbr_fresh over the same memory; the
+ * other calls only read it and may run beside each other. Calls over different memory never meet.
  *
- * Platform: the archive is for x86-64 Linux with glibc 2.34 or newer. The words of directory, work and answers have
+ * Platform: the archive is for x86-64 Linux. The words of directory, work and answers have
  * the machine's byte order, which there is low byte first.
  *
  * Settings: N cache blocks (1 to 4,096), of which Nnew form the new section and Nold the old one (Nold at least 1,
@@ -24,8 +25,9 @@
  *   incoming    B bytes for each write, or more
  *   outgoing    B bytes for each read, or more
  *
- * Returned numbers, checked in this order; fbr_totals checks 10 before 6. A call that returns another number than 0
- * changes nothing, except that fbr_totals writes zeros with 6. fbr_number_text gives each number's text.
+ * Numbers that fbr_fresh, fbr_batch, fbr_look_number and fbr_totals return, checked in this order; fbr_totals checks 10
+ * before 6. One of these calls that returns another number than 0 has changed nothing, except that fbr_totals writes
+ * zeros with 6. fbr_number_text gives each number's text.
  *    0  accepted
  *    1  N outside its limits                                                 fresh
  *    2  Nold is 0 or Nnew + Nold exceeds N                                   fresh
@@ -81,7 +83,7 @@ static inline const char *fbr_number_text(uint32_t number) {
     case FBR_UNSOUND: return "the directory is not sound";
     case FBR_SHORT_DATA_OR_STORE: return "data is shorter than N x B bytes, or the store shorter than M x B";
     case FBR_TOO_MANY_WORDS: return "the batch has more than 1,024 work words";
-    case FBR_BAD_WORD: return "a work word has a wrong kind, a block of M or more, or a flush with a value";
+    case FBR_BAD_WORD: return "a block is M or more, a work word has a wrong kind, or a flush has a value";
     case FBR_SHORT_BUFFER: return "a buffer is too short: answers, incoming, outgoing or out";
     case FBR_TOTALS_FULL: return "reads + writes + batch length exceeds 2^56 - 1";
     default: return "not a number of this library";
@@ -97,7 +99,7 @@ enum { FBR_READ = 1, FBR_WRITE = 2, FBR_PURGE = 3, FBR_FLUSH = 4 };
 
 /*
  * A work word. What does not fit never becomes another block's word: a value above 28 bits becomes the largest value
- * and a kind above 15 becomes 15, and every batch refuses such a word with 9.
+ * and a kind above 15 becomes 15, and every batch refuses such a word (9, unless an earlier number holds).
  */
 static inline uint32_t fbr_word(uint32_t kind, uint64_t value) {
     uint32_t most = UINT32_C(0x0fffffff);
@@ -154,7 +156,8 @@ uint32_t fbr_batch(uint32_t *dir, size_t dir_len, uint8_t *data, size_t data_len
                    uint32_t *answers, size_t answers_len, uint8_t *outgoing, size_t outgoing_len);
 
 /*
- * The number of a look at a block: 0, or 6, 7 or 9. Nothing changes.
+ * The number of a look at a block: 0, or 6, 7 or 9. Nothing changes. A block has 32 bits: compare a wider number with M
+ * before you pass it.
  */
 uint32_t fbr_look_number(const uint32_t *dir, size_t dir_len, const uint8_t *data, size_t data_len,
                          const uint8_t *store, size_t store_len, uint32_t block);
@@ -162,7 +165,8 @@ uint32_t fbr_look_number(const uint32_t *dir, size_t dir_len, const uint8_t *dat
 /*
  * Looks at a block: the part of data or of store that holds its present bytes, the resident's if there is one.
  * Returns the part's length, which is B, or 0 where fbr_look_number is not 0. The part is copied to the front of
- * out where out_len is at least that length, else out stays as it was; the rest of out stays. Nothing else changes.
+ * out where out_len is at least that length, and the rest of out stays. Where out is shorter, B is returned all the
+ * same and nothing is copied: lend B bytes, or compare. Nothing else changes.
  */
 size_t fbr_look_into(const uint32_t *dir, size_t dir_len, const uint8_t *data, size_t data_len, const uint8_t *store,
                      size_t store_len, uint32_t block, uint8_t *out, size_t out_len);
@@ -171,6 +175,9 @@ size_t fbr_look_into(const uint32_t *dir, size_t dir_len, const uint8_t *data, s
  * 1 if the directory is sound, else 0, for any words. Nothing changes.
  */
 uint32_t fbr_sound(const uint32_t *dir, size_t dir_len);
+
+/* The totals' places. */
+enum { FBR_TOTAL_READS, FBR_TOTAL_WRITES, FBR_TOTAL_INS, FBR_TOTAL_OUTS, FBR_TOTALS };
 
 /*
  * The totals since the directory was fresh, at the front of out in the order reads, writes, blocks in, blocks out; the
@@ -195,8 +202,9 @@ uint32_t fbr_buckets(uint32_t n);
  */
 uint32_t fbr_directory_words(uint32_t n, uint32_t cmax);
 
-/* Named settings. */
+/* Named settings, and the places of the settings. FBR_VALUE(dir[FBR_N]) is the N of a sound directory, and so on. */
 enum { FBR_UNIX = 0, FBR_C51 = 1, FBR_CUST11 = 2 };
+enum { FBR_N, FBR_NNEW, FBR_NOLD, FBR_CMAX, FBR_AMAX, FBR_B, FBR_M, FBR_SETTINGS };
 
 /*
  * Named settings for n cache blocks of b bytes and a store of m blocks, at the front of out in the order N, Nnew,

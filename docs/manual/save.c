@@ -5,8 +5,9 @@
 
 #include "fbr.h"
 
-/* The lent memory of one cache. */
+/* The lent memory of one cache, and its settings. */
 struct cache {
+    const uint32_t *settings;
     uint32_t *directory;
     size_t words;
     uint8_t *data;
@@ -99,6 +100,13 @@ static void get_memory(struct stream *s, struct cache *c) {
     get(s, c->store, c->store_len);
 }
 
+/* Whether the directory was started with these settings. Another cache's file may be as long and as sound. */
+static int settings_are(const struct cache *c, const uint32_t *settings) {
+    for (size_t i = 0; i < FBR_SETTINGS; i++)
+        if (c->words <= i || FBR_VALUE(c->directory[i]) != settings[i]) return 0;
+    return 1;
+}
+
 /* Whether the checksum comes next and is right, and the file ends with it. */
 static int sum_is_right(struct stream *s) {
     uint64_t sum = s->sum;
@@ -131,6 +139,7 @@ static const char *fill(const char *path, struct cache *c) {
     } else {
         get_memory(&s, c);
         if (!sum_is_right(&s)) wrong = "checksum wrong";
+        else if (!settings_are(c, c->settings)) wrong = "the file of a cache with other settings";
     }
     closed_well(&s);
     return wrong;
@@ -153,9 +162,10 @@ static int damage(const char *path, long place) {
 
 /* The cache of this program. */
 enum { N = 4, NNEW = 1, NOLD = 2, CMAX = 3, AMAX = 100, B = 8, M = 64, WORDS = 70 };
+static const uint32_t settings[FBR_SETTINGS] = {N, NNEW, NOLD, CMAX, AMAX, B, M};
 static uint32_t directory[WORDS];
 static uint8_t data[N * B], store[M * B];
-static struct cache cache = {directory, WORDS, data, sizeof data, store, sizeof store};
+static struct cache cache = {settings, directory, WORDS, data, sizeof data, store, sizeof store};
 
 static void wipe(void) {
     memset(directory, 0, sizeof directory);
@@ -174,10 +184,10 @@ static uint32_t one(uint32_t kind, uint32_t block, uint8_t *bytes) {
 }
 
 static void show_totals(void) {
-    uint64_t totals[4];
-    if (fbr_totals(directory, WORDS, totals, 4) != FBR_ACCEPTED) return;
-    printf("totals: reads %" PRIu64 ", writes %" PRIu64 ", in %" PRIu64 ", out %" PRIu64 "\n", totals[0], totals[1],
-           totals[2], totals[3]);
+    uint64_t totals[FBR_TOTALS];
+    if (fbr_totals(directory, WORDS, totals, FBR_TOTALS) != FBR_ACCEPTED) return;
+    printf("totals: reads %" PRIu64 ", writes %" PRIu64 ", in %" PRIu64 ", out %" PRIu64 "\n",
+           totals[FBR_TOTAL_READS], totals[FBR_TOTAL_WRITES], totals[FBR_TOTAL_INS], totals[FBR_TOTAL_OUTS]);
 }
 
 static void show_read(uint32_t block) {

@@ -95,6 +95,22 @@ fn the_c_program() {
     }
 }
 
+/// The manual's lines about sizes, in a program that says what they come to.
+#[test]
+fn the_sizes_of_named_settings() {
+    let folder = folder("the_sizes_of_named_settings");
+    let main = format!(
+        "#include <stdio.h>\n#include <stdlib.h>\n#include \"fbr.h\"\nint main(void) {{\n{}         printf(\"%u %zu %u\\n\", (unsigned)number, words, (unsigned)s[FBR_NOLD]);\n         free(dir); free(data); free(store);\nreturn 0;\n}}\n",
+        shown("c sizes")
+    );
+    let source = folder.join("sizes.c");
+    fs::write(&source, main).unwrap();
+    for language in &LANGUAGES {
+        let program = compiled(language, source.to_str().unwrap(), &folder);
+        assert_eq!(printed(&mut Command::new(program)), "0 680 38\n", "{}", language.compiler);
+    }
+}
+
 #[test]
 fn saving_in_c() {
     let folder = folder("saving_in_c");

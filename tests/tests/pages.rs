@@ -69,6 +69,17 @@ fn prose(page: &Path) -> String {
     read(page).lines().filter(outside).collect::<Vec<&str>>().join("\n")
 }
 
+/// Nothing is left to be filled in: no `@NAME@`.
+#[test]
+fn no_page_has_a_gap() {
+    let gap = |word: &str| word.len() > 2 && word.chars().all(|c| c.is_ascii_uppercase());
+    for page in pages() {
+        let text = read(&page);
+        let gaps: Vec<&str> = text.split('@').skip(1).filter(|word| gap(word)).collect();
+        assert!(gaps.is_empty(), "{}: {gaps:?}", page.display());
+    }
+}
+
 /// The targets of `[text](target)` that lead to files of the repository, without what follows a `#`.
 fn relative_targets(text: &str) -> Vec<&str> {
     let targets = text.split("](").skip(1).filter_map(|rest| rest.split([')', ' ']).next());

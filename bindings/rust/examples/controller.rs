@@ -15,6 +15,10 @@ const BATCH: usize = 100;
 /// The directory's word that says which entry was used last.
 const HEAD: usize = 9;
 
+fn settings() -> Settings {
+    Settings::unix(64, B, M)
+}
+
 type Outcome<T> = Result<T, Box<dyn Error>>;
 
 /// The same traffic every day: nine of ten words are about one block in eight.
@@ -103,9 +107,12 @@ fn save(cache: &Cache, path: &Path) -> Outcome<usize> {
     Ok(bytes.len())
 }
 
+/// A save of this controller's cache: another cache's may be as long and as sound.
 fn take_up(saved: &[u8]) -> Outcome<Cache> {
     let parts = decode(checked(saved)?).ok_or("the lengths are wrong")?;
-    Ok(Cache::from_parts(parts)?)
+    let cache = Cache::from_parts(parts)?;
+    ensure(cache.settings()? == settings(), "it is another cache's")?;
+    Ok(cache)
 }
 
 fn hits(ran: &Ran) -> usize {
@@ -182,7 +189,7 @@ fn with_the_store_alone(damaged: Cache, settings: &Settings) -> Outcome<Cache> {
 }
 
 fn day(path: &Path) -> Outcome<()> {
-    let settings = Settings::unix(64, B, M);
+    let settings = settings();
     let mut cache = Cache::new(&settings, vec![b'.'; settings.store_bytes()])?;
     let mut traffic = Traffic { state: 1, written: 0 };
     println!("a cache of {} blocks over a store of {M} blocks of {B} bytes", settings.n);

@@ -3,7 +3,8 @@ use std::fmt;
 /// Why a call declined. A declined call has changed nothing.
 ///
 /// The cases are checked in this order. [`fresh`](crate::fresh) gives 1 to 5, a batch 6 to 11, a look 6, 7 or 9, a look
-/// into a buffer 10 too.
+/// into a buffer 10 too, totals and settings 6. [`Cache::new`](crate::Cache::new) gives 1 to 4 and 7,
+/// [`Cache::from_parts`](crate::Cache::from_parts) 6 and 7.
 #[derive(Clone, Copy, Debug, PartialEq, Eq, Hash)]
 #[non_exhaustive]
 pub enum Refusal {
@@ -91,7 +92,7 @@ impl Refusal {
             Refusal::Unsound => "the directory is not sound",
             Refusal::ShortDataOrStore => "data is shorter than N x B bytes, or the store shorter than M x B",
             Refusal::TooManyWords => "the batch has more than 1,024 work words",
-            Refusal::BadWord => "a work word has a wrong kind, a block of M or more, or a flush with a value",
+            Refusal::BadWord => "a block is M or more, a work word has a wrong kind, or a flush has a value",
             Refusal::ShortBuffer => "a buffer is too short: answers, incoming, outgoing or out",
             Refusal::TotalsFull => "reads + writes + batch length exceeds 2^56 - 1",
             Refusal::Unknown(_) => "unknown to this crate, so the archive is of another version",

@@ -20,7 +20,8 @@ pub struct Settings {
 }
 
 impl Settings {
-    /// UNIX of the paper's table 3.2: Cmax 8, new section 25 %, old section 60 %, Amax 100.
+    /// UNIX of the paper's table 3.2: Cmax 8, new section 25 %, old section 60 %, Amax 100; for `n` cache blocks of `b`
+    /// bytes over a store of `m` blocks.
     ///
     /// For an `n` outside its limits all settings are 0, as with the other named settings.
     pub fn unix(n: u32, b: u32, m: u32) -> Settings {

@@ -1,4 +1,4 @@
--- Named settings as words: what `fbr_named` writes. Assumes nothing.
+-- Named settings as words: what `fbr_named` writes (SCOPE, "The library's own calls"). Assumes nothing.
 use Prim.Native.Nat.{ℕ}
 use mathlib.Core.Bool.{Bool, _&&_}
 use mathlib.Core.List.{List, [], _∷_}

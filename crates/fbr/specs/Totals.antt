@@ -1,4 +1,4 @@
--- What `fbr_totals` writes: the totals of a sound directory, or four 0s. Assumes nothing.
+-- What `fbr_totals` writes (SCOPE, "The library's own calls"): the totals of a sound directory, or four 0s. Assumes nothing.
 use Prim.Native.Nat.{ℕ}
 use mathlib.Core.List.{List, [], _∷_}
 use Rattle.basics.specs.Basics.{if_then_else_, pick}

@@ -1,4 +1,4 @@
--- A directory is sound exactly if its words have the working form.
+-- The words of a sound directory have the working form; the other way is ToSound.
 -- Assumes nothing.
 use Prim.Native.Nat.{ℕ}
 use mathlib.Core.Path.{_≡_}
