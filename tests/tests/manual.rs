@@ -157,3 +157,13 @@ fn the_crate_is_documented() {
     let mut cargo = cargo("doc", &folder("documentation"));
     printed(cargo.arg("--no-deps").env("RUSTDOCFLAGS", "-D warnings"));
 }
+
+#[test]
+fn a_build_without_the_archive_says_what_makes_it() {
+    let empty = folder("no_archive");
+    let mut cargo = cargo("build", &empty.join("target"));
+    let output = cargo.env("FBR_ARCHIVE_DIR", &empty).output().unwrap();
+    let said = String::from_utf8_lossy(&output.stderr);
+    assert!(!output.status.success() && said.contains("rt staticlib fbr"), "{said}");
+    assert!(said.contains(empty.join("libfbr.a").to_str().unwrap()), "{said}");
+}
