@@ -9,7 +9,8 @@ use borrow.Author.Tests.{le-leb}
 use Rattle.promises.specs.Promises.{over}
 use Rattle.fbr.specs.Fronts.{fitted}
 
-pub front-copied : (part out after : List ℕ) → after ≡ take (length part) part ++ drop (length part) out → length part ≤ length out → after ≡ fitted part out
+pub front-copied : (part out after : List ℕ) → after ≡ take (length part) part ++ drop (length part) out → length part ≤ length out
+    → after ≡ fitted part out
 front-copied part out after e h = rw (le-leb _ _ h) (rw (take-length part) at e)
 
 -- xs stored from word i on

@@ -25,23 +25,27 @@ between-requires-2 c κs = search needs
 
 returns-2 : tie.Need-returns-2
 returns-2 c =
-    let a = c .before .before .before .before .args in
-    let inside : within 1 4096 (a .n) ≡ true = sym (c .before .before .before .between .ensures) ∙ not-false _ (c .before .before .if1 .left) in
+    let first = c .before .before in
+    let a = first .before .before .args in
+    let inside : within 1 4096 (a .n) ≡ true = sym (first .before .between .ensures) ∙ not-false _ (first .if1 .left) in
     let outside : within 1 64 (a .cmax) ≡ false = sym (c .before .between2 .ensures) ∙ not-true _ (c .if2 .taken) in
     rw (inside, outside)
 
 length-of-requires : tie.Need-length-of-requires
 length-of-requires c κs =
-    let a = c .before .before .before .before .args in
-    let blocks = within-yes 1 4096 (a .n) (sym (c .before .before .before .between .ensures) ∙ not-false _ (c .before .before .if1 .left)) in
+    let first = c .before .before in
+    let a = first .before .before .args in
+    let blocks = within-yes 1 4096 (a .n) (sym (first .before .between .ensures) ∙ not-false _ (first .if1 .left)) in
     let chains = within-yes 1 64 (a .cmax) (sym (c .before .between2 .ensures) ∙ not-false _ (c .if2 .left)) in
     (blocks .0, blocks .1, chains .1)
 
 returns-3 : tie.Need-returns-3
 returns-3 c =
-    let a = c .before .before .before .before .before .args in
-    let of-n : within 1 4096 (a .n) ≡ true = sym (c .before .before .before .before .between .ensures) ∙ not-false _ (c .before .before .before .if1 .left) in
-    let of-cmax : within 1 64 (a .cmax) ≡ true = sym (c .before .before .between2 .ensures) ∙ not-false _ (c .before .if2 .left) in
+    let second = c .before in
+    let first = second .before .before in
+    let a = first .before .before .args in
+    let of-n : within 1 4096 (a .n) ≡ true = sym (first .before .between .ensures) ∙ not-false _ (first .if1 .left) in
+    let of-cmax : within 1 64 (a .cmax) ≡ true = sym (second .before .between2 .ensures) ∙ not-false _ (second .if2 .left) in
     rw (of-n, of-cmax) (c .length-of .ensures)
 
 pub directory-words-spec : {M : Type 1} → statement M
