@@ -51,7 +51,7 @@ module _ (ws : List ℕ) (h : T (sound ws)) where
   tests : All T (stackTests ws ++ (residentTests ws ++ chainTests ws))
   tests = every-yes (stackTests ws ++ (residentTests ws ++ chainTests ws)) (passed .1)
 
-  stack-passes : All T (stackTests ws)
+  pub stack-passes : All T (stackTests ws)
   stack-passes = all-left T (stackTests ws) (residentTests ws ++ chainTests ws) tests
 
   resident-passes : All T (residentTests ws)

@@ -141,6 +141,11 @@ memoryLeft m [] ts = m
 memoryLeft m (c ∷ cs) [] = m
 memoryLeft m (c ∷ cs) ((n, after) ∷ ts) = memoryLeft (leaves m c after) cs ts
 
+-- the plain stack after them
+abbrev pub stackLeft : Plain → List Lending → Plain
+stackLeft k [] = k
+stackLeft k (c ∷ cs) = stackLeft (batch k (asCall c) .ran .after) cs
+
 -- Until a word is carried out the directory is as fresh made it, the unused list's rising order too, and data and store are as they were.
 abbrev pub StillFresh : Type 0
 StillFresh =
