@@ -2,3 +2,4 @@ pub mod Fronts
 pub mod FrontLaws
 pub mod Named
 pub mod Totals
+pub mod Occupancy

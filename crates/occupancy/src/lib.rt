@@ -13,11 +13,13 @@ const ACCEPTED: u32 = 0;
 
 const UNSOUND: u32 = 6;
 
+pub const CLASSES: usize = 8;
+
 // The number, and for each class its residents and how many of these are modified.
 pub struct Table {
     pub number: u32,
-    pub residents: [u32; 8],
-    pub modified: [u32; 8],
+    pub residents: [u32; CLASSES],
+    pub modified: [u32; CLASSES],
 }
 
 // The class of a count, by its place among the eight.
@@ -33,7 +35,7 @@ fn class_of(count: u32) -> usize
         17..=64 => 5,
         65..=1000 => 6,
         1001..=65535 => 7,
-        _ => 8,
+        _ => CLASSES,
     }
 }
 
@@ -43,8 +45,8 @@ fn no_figures(number: u32) -> Table
 {
     Table {
         number: number,
-        residents: [0; 8],
-        modified: [0; 8],
+        residents: [0; CLASSES],
+        modified: [0; CLASSES],
     }
 }
 

@@ -2,12 +2,12 @@
 use Prim.Native.Nat.{ℕ, _+_, _*_}
 use native.Mathlib.Omega.{arith}
 use mathlib.Core.Path.{_≡_, refl, sym, ap, _∙_}
-use mathlib.Core.Bool.{Bool}
+use mathlib.Core.Bool.{Bool, true, false}
 use mathlib.Core.List.{List, [], _∷_, _++_, map}
 use lib.ListN.{length, length-map, take}
 use lib.Dec.{T, eqb}
 use mir.Facts.{eqb-yes}
-use Rattle.basics.specs.Basics.{All, bit, total}
+use Rattle.basics.specs.Basics.{All, if_then_else_, bit, total}
 use Rattle.basics.specs.ListLaws.{all-yes, yes-all}
 use Rattle.basics.specs.Lists.{all, counting}
 use Rattle.basics.specs.TestLaws.{if-yes}
@@ -23,11 +23,23 @@ use Rattle.layout.specs.SoundLaws.{stack-passes, sound-kept}
 use Rattle.promises.specs.Promises.{Slices}
 use Rattle.promises.specs.Demand3.{Memory, Lending, Alike, Follows, end, call, memoryLeft, stackLeft}
 use Rattle.promises.specs.Demand3Laws.{demand3}
-use Rattle.promises.specs.Occupancy.{occupancyNumber, tableIn, OneClass, marksIn, AddsUp, TableAlike, PlainTable}
-use Rattle.stack.specs.Occupancy.{table}
+use Rattle.promises.specs.Occupancy.{occupancyNumber, noFigures, tableIn, OneClass, marksIn, AddsUp, TableAlike, PlainTable}
+use Rattle.stack.specs.Occupancy.{column, Table, table}
 
 pub one-class-each : OneClass
 one-class-each = one-class
+
+-- eight figures in each column
+pub eight : (words : List ℕ) → (length (tableIn words .residents) ≡ 8) × (length (tableIn words .modified) ≡ 8)
+unfolding tableIn column
+eight words = go (sound words)
+  where
+    shown : Bool → Table
+    shown passes = if passes then table (residentsIn words) else noFigures
+
+    go : (passes : Bool) → (length (shown passes .residents) ≡ 8) × (length (shown passes .modified) ≡ 8)
+    go true = (refl, refl)
+    go false = (refl, refl)
 
 -- ---- of sound words
 
