@@ -3,11 +3,12 @@
  *
  * Every call works on memory that the caller lends for the length of the call. Nothing is kept between calls,
  * nothing is allocated and nothing is freed: directory, data and store are the caller's, and the whole state of a
- * cache stands in them. Slices pass as a pointer and an element count: 32-bit words for directory, work, answers and
- * settings, 64-bit numbers for totals, bytes for data, store, incoming and outgoing. A pointer must not be null and must be aligned for its elements,
- * also where the count is 0: fbr_no_bytes and fbr_no_words give pointers for that. Slices that one call may write to
- * must not overlap any other slice of that call. Nothing may run beside fbr_batch or fbr_fresh over the same memory; the
- * other calls only read it and may run beside each other. Calls over different memory never meet.
+ * cache stands in them. Slices pass as a pointer and an element count: 32-bit words for directory, work, answers,
+ * settings and occupancy, 64-bit numbers for totals, bytes for data, store, incoming and outgoing. A pointer must not
+ * be null and must be aligned for its elements, also where the count is 0: fbr_no_bytes and fbr_no_words give pointers
+ * for that. Slices that one call may write to must not overlap any other slice of that call. Nothing may run beside
+ * fbr_batch or fbr_fresh over the same memory; the other calls only read it and may run beside each other. Calls over
+ * different memory never meet.
  *
  * Platform: the archive is for x86-64 Linux. The words of directory, work and answers have
  * the machine's byte order, which there is low byte first.
@@ -25,20 +26,21 @@
  *   incoming    B bytes for each write, or more
  *   outgoing    B bytes for each read, or more
  *
- * Numbers that fbr_fresh, fbr_batch, fbr_look_number and fbr_totals return, checked in this order; fbr_totals checks 10
- * before 6. One of these calls that returns another number than 0 has changed nothing, except that fbr_totals writes
- * zeros with 6. fbr_number_text gives each number's text.
+ * Numbers that fbr_fresh, fbr_batch, fbr_look_number, fbr_totals and fbr_occupancy return, checked in this order;
+ * fbr_totals and fbr_occupancy check 10 before 6. One of these calls that returns another number than 0 has changed
+ * nothing, except that fbr_totals and fbr_occupancy write zeros with 6. fbr_number_text gives each number's text.
  *    0  accepted
  *    1  N outside its limits                                                 fresh
  *    2  Nold is 0 or Nnew + Nold exceeds N                                   fresh
  *    3  Cmax or Amax outside                                                 fresh
  *    4  B or M outside                                                       fresh
  *    5  directory too short                                                  fresh
- *    6  directory not sound                                                  batch, look, totals
+ *    6  directory not sound                                                  batch, look, totals, occupancy
  *    7  data below N * B or store below M * B bytes                          batch, look
  *    8  more than 1,024 work words                                           batch
  *    9  a kind outside 1 to 4, a block of M or more, a flush with a value    batch; look: a block of M or more
- *   10  answers, incoming or outgoing shorter than the batch needs           batch; totals: out below 4 numbers
+ *   10  answers, incoming or outgoing shorter than the batch needs           batch; totals: out below 4 numbers;
+ *                                                                            occupancy: out below 16 words
  *   11  reads + writes + batch length above 2^56 - 1                         batch
  */
 #ifndef FBR_H
@@ -48,8 +50,8 @@
 #include <stdint.h>
 
 /* The version, as a number for #if (major * 10000 + minor * 100 + patch) and as a text. */
-#define FBR_VERSION 200
-#define FBR_VERSION_TEXT "0.2.0"
+#define FBR_VERSION 300
+#define FBR_VERSION_TEXT "0.3.0"
 
 #ifdef __cplusplus
 extern "C" {
@@ -185,6 +187,35 @@ enum { FBR_TOTAL_READS, FBR_TOTAL_WRITES, FBR_TOTAL_INS, FBR_TOTAL_OUTS, FBR_TOT
  * The directory stays as it is.
  */
 uint32_t fbr_totals(const uint32_t *dir, size_t dir_len, uint64_t *out, size_t out_len);
+
+/*
+ * The count classes, and the words of an occupancy: class i, from 0, has out[i] residents and out[FBR_CLASSES + i]
+ * modified ones.
+ */
+enum { FBR_CLASSES = 8, FBR_OCCUPANCY = 2 * FBR_CLASSES };
+
+/* The counts of a class, from 0 to FBR_CLASSES - 1. */
+static inline const char *fbr_class_text(uint32_t count_class) {
+    switch (count_class) {
+    case 0: return "1";
+    case 1: return "2";
+    case 2: return "3 to 4";
+    case 3: return "5 to 8";
+    case 4: return "9 to 16";
+    case 5: return "17 to 64";
+    case 6: return "65 to 1000";
+    case 7: return "above 1000";
+    default: return "not a count class";
+    }
+}
+
+/*
+ * The occupancy by count class, at the front of out: the residents of the eight classes, then the modified residents
+ * of the eight; the rest of out stays. The first eight add up to the directory's residents, the others to its modified
+ * marks. Returns 0; or 10 where out_len is below 16, and leaves out as it was; or 6, with sixteen zeros in out. The
+ * directory stays as it is. No data or store is lent.
+ */
+uint32_t fbr_occupancy(const uint32_t *dir, size_t dir_len, uint32_t *out, size_t out_len);
 
 /*
  * The 32-bit FNV-1a of a block number's four bytes, low byte first.

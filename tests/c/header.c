@@ -2,6 +2,8 @@
  *
  *   version           FBR_VERSION and FBR_VERSION_TEXT
  *   text NUMBER       fbr_number_text
+ *   classes           FBR_CLASSES and FBR_OCCUPANCY
+ *   class NUMBER      fbr_class_text
  *   answer WORD       kind, value, then each FBR_ANSWER_ macro in the header's order
  *   word KIND VALUE   fbr_word, and the number of a batch of that one word over a store of the most blocks
  *   empty             the number of a batch without words over the pointers for empty slices
@@ -69,6 +71,8 @@ static int is(const char *a, const char *b) { return strcmp(a, b) == 0; }
 static int show(const char *question) {
     if (is(question, "version")) printf("%d %s\n", FBR_VERSION, FBR_VERSION_TEXT);
     else if (is(question, "text")) printf("%s\n", fbr_number_text(asked()));
+    else if (is(question, "classes")) printf("%d %d\n", FBR_CLASSES, FBR_OCCUPANCY);
+    else if (is(question, "class")) printf("%s\n", fbr_class_text(asked()));
     else if (is(question, "answer")) show_answer(asked());
     else if (is(question, "word")) show_word();
     else if (is(question, "empty")) printf("%" PRIu32 "\n", number_of_none());

@@ -4,6 +4,7 @@
 //! [`reference`] is written in plain Rust from the scope alone and shares nothing with the library. The tests run
 //! both over the same inputs and compare every number, word and verdict.
 use fbr::sys;
+use reference::occupancy::{Table, FIGURES};
 
 pub mod reference;
 
@@ -35,6 +36,7 @@ pub const LIBRARY: reference::beside::Tested = reference::beside::Tested {
     batch,
     sound,
     look: |dir, data, store, block, out| look_into(dir, data, store, block, out),
+    occupancy: table,
 };
 
 /// Writes a fresh directory over `dir`, or returns 1 to 5.
@@ -94,6 +96,18 @@ pub fn sound(dir: &[u32]) -> bool {
 /// The totals at the front of `out`: reads, writes, ins, outs; 0, or 6 and four 0s, or 10 where `out` is too short.
 pub fn totals(dir: &[u32], out: &mut [u64]) -> u32 {
     unsafe { sys::fbr_totals(dir.as_ptr(), dir.len(), out.as_mut_ptr(), out.len()) }
+}
+
+/// The occupancy at the front of `out`: the residents of the eight count classes, then the modified ones; 0, or 6 and
+/// sixteen 0s, or 10 where `out` is too short.
+pub fn occupancy(dir: &[u32], out: &mut [u32]) -> u32 {
+    unsafe { sys::fbr_occupancy(dir.as_ptr(), dir.len(), out.as_mut_ptr(), out.len()) }
+}
+
+/// The number and the figures of an occupancy, over words that are no figures.
+pub fn table(dir: &[u32]) -> (u32, Table) {
+    let mut out = [u32::MAX; FIGURES];
+    (occupancy(dir, &mut out), out)
 }
 
 /// FNV-1a of a block number's four bytes, low byte first.

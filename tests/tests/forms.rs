@@ -101,6 +101,33 @@ fn a_look_returns_a_part_of_one_of_two_slices() {
     assert!(looks.contains("pub fn look<'a>(dir: &[u32], bytes: &'a [u8], store: &'a [u8], block: u32) -> &'a [u8]"));
 }
 
+/// The arms that the class of a count is worked out by: the request's classes, and a last one for what no resident has.
+const CLASS_ARMS: [&str; 9] = [
+    "1 => 0", "2 => 1", "3..=4 => 2", "5..=8 => 3", "9..=16 => 4", "17..=64 => 5", "65..=1000 => 6",
+    "1001..=65535 => 7", "_ => 8",
+];
+
+/// The body of `class_of` is one `match` with ranges, without an `if` or a table, and no other place of the crate has
+/// the ranges.
+#[test]
+fn count_class_by_a_match_with_ranges() {
+    let occupancy: String = source("occupancy/src/lib.rt").lines().map(|line| uncommented(line) + "\n").collect();
+    let class_of = function(&occupancy, "fn class_of(");
+    let (front, arms) = class_of.split_once("match ").expect("a match");
+    assert!(front.trim_end().ends_with('{'), "the match is not the whole body: {class_of}");
+    let arms = arms.split_once(" {\n").expect("the arms").1.trim_end().strip_suffix('}').expect("the end of the match");
+    let arms: Vec<&str> =
+        arms.lines().map(|arm| arm.trim().trim_end_matches(',')).filter(|arm| !arm.is_empty()).collect();
+    assert_eq!(arms, CLASS_ARMS);
+    assert!(occupancy.matches("class_of(").count() > 1, "class_of is not used");
+    for range in ["3..=4", "17..=64", "65..=1000", "1001..="] {
+        assert_eq!(occupancy.matches(range).count(), 1, "{range}");
+    }
+}
+fn uncommented(line: &str) -> String {
+    line.split("//").next().unwrap().trim_end().to_string()
+}
+
 /// What crates.txt lists for a crate: the checker refuses a file that names any other.
 fn listed(name: &str) -> Vec<String> {
     let list = fs::read_to_string(root().join("crates.txt")).unwrap();
@@ -146,6 +173,7 @@ fn entry_points_have_no_requires() {
         ("soundness/src/lib.rt", "pub fn sound("),
         ("belt/src/lib.rt", "pub fn cycle("),
         ("header/src/lib.rt", "pub fn totals_in("),
+        ("occupancy/src/lib.rt", "pub fn occupancy("),
         ("settings/src/lib.rt", "pub fn directory_words("),
     ] {
         let text = source(file);

@@ -163,6 +163,18 @@ fn texts_of_the_numbers() {
     }
 }
 
+/// The classes of the header are those of the Rust crate, by the same texts.
+#[test]
+fn texts_of_the_count_classes() {
+    let settings = fbr::Settings::unix(1, 1, 1);
+    let classes = fbr::Cache::new(&settings, vec![0]).unwrap().occupancy().unwrap().classes;
+    assert_eq!(header_says(&["classes".to_string()]), [format!("{} {}", classes.len(), 2 * classes.len())]);
+    let asked: Vec<u32> = (0..classes.len() as u32).collect();
+    let said = header_says(&asked.iter().map(|class| format!("class {class}")).collect::<Vec<_>>());
+    assert_eq!(said, classes.map(|class| class.to_string()));
+    assert_eq!(header_says(&["class 8".to_string(), "class 4294967295".to_string()]), ["not a count class"; 2]);
+}
+
 /// Answer words of every kind, at the edges of their parts and elsewhere.
 fn answer_words() -> Vec<u32> {
     let edges = [0, 1, 2, 3, 65_535, (1 << 18) - 1, 1 << 18, 33_816_579, 1 << 25, (1 << 26) - 1, 1 << 26, 1 << 27];

@@ -84,6 +84,7 @@ fn check_saved(file: &[u8]) {
 fn the_manual_shows_the_files() {
     assert_eq!(shown("c"), text("docs/manual/small.c"));
     assert_eq!(shown("rust"), text("bindings/rust/examples/small.rs"));
+    assert_eq!(shown("rust occupancy"), text("bindings/rust/examples/occupancy.rs"));
 }
 
 #[test]
@@ -95,20 +96,44 @@ fn the_c_program() {
     }
 }
 
-/// The manual's lines about sizes, in a program that says what they come to.
-#[test]
-fn the_sizes_of_named_settings() {
-    let folder = folder("the_sizes_of_named_settings");
-    let main = format!(
-        "#include <stdio.h>\n#include <stdlib.h>\n#include \"fbr.h\"\nint main(void) {{\n{}         printf(\"%u %zu %u\\n\", (unsigned)number, words, (unsigned)s[FBR_NOLD]);\n         free(dir); free(data); free(store);\nreturn 0;\n}}\n",
-        shown("c sizes")
-    );
-    let source = folder.join("sizes.c");
-    fs::write(&source, main).unwrap();
+/// What lines of the manual print in a program, after its lines about sizes.
+fn after_the_sizes(test: &str, lines: &str, expected: &str) {
+    let folder = folder(test);
+    let front = "#include <stdio.h>\n#include <stdlib.h>\n#include \"fbr.h\"\nint main(void) {\n";
+    let end = "free(dir); free(data); free(store);\nreturn 0;\n}\n";
+    let source = folder.join("lines.c");
+    fs::write(&source, [front, &shown("c sizes"), lines, end].concat()).unwrap();
     for language in &LANGUAGES {
         let program = compiled(language, source.to_str().unwrap(), &folder);
-        assert_eq!(printed(&mut Command::new(program)), "0 680 38\n", "{}", language.compiler);
+        assert_eq!(printed(&mut Command::new(program)), expected, "{}", language.compiler);
     }
+}
+
+#[test]
+fn the_sizes_of_named_settings() {
+    let say = "printf(\"%u %zu %u\\n\", (unsigned)number, words, (unsigned)s[FBR_NOLD]);\n";
+    after_the_sizes("the_sizes_of_named_settings", say, "0 680 38\n");
+}
+
+/// A write of one block and a read of another.
+const BATCH: &str = "
+uint32_t work[2] = {fbr_word(FBR_WRITE, 3), fbr_word(FBR_READ, 5)}, answers[2];
+uint8_t in[512] = {0}, read[512];
+number = fbr_batch(dir, words, data, 64 * 512, store, 2048 * 512, work, 2, in, 512, answers, 2, read, 512);
+";
+const OCCUPANCY: &str = "         1         2        1
+         2         0        0
+    3 to 4         0        0
+    5 to 8         0        0
+   9 to 16         0        0
+  17 to 64         0        0
+65 to 1000         0        0
+above 1000         0        0
+";
+
+#[test]
+fn the_occupancy_in_c() {
+    after_the_sizes("the_occupancy_in_c", &[BATCH, &shown("c occupancy")].concat(), OCCUPANCY);
 }
 
 #[test]
@@ -150,6 +175,10 @@ fn the_rust_program() {
 #[test]
 fn the_controller() {
     assert_eq!(example("controller"), shown("text controller"));
+}
+#[test]
+fn the_occupancy_of_a_day() {
+    assert_eq!(example("occupancy"), shown("text occupancy"));
 }
 
 #[test]

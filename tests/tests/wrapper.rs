@@ -1,16 +1,17 @@
-//! The Rust wrapper in `bindings/rust` beside the plain stack: numbers, words, bytes, looks, totals and settings, over
-//! lent memory and over a cache that owns its memory.
+//! The Rust wrapper in `bindings/rust` beside the plain stack: numbers, words, bytes, looks, totals, occupancy and
+//! settings, over lent memory and over a cache that owns its memory.
 use cache_tests::reference::beside::{self, Tested};
 use cache_tests::reference::directory::{kind, value, word};
 use cache_tests::reference::histories;
+use cache_tests::reference::occupancy::{of_stack, Table, NONE};
 use cache_tests::reference::rng::Rng;
 use cache_tests::reference::settings::{directory_length, named, Profile, MAX_CMAX, MAX_N, PROFILES};
 use cache_tests::reference::stack::{answer, work, PlainStack};
 use cache_tests::{Settings, BELT};
-use fbr::{Answer, Cache, Memory, NotTaken, Parts, Refusal, Totals, Work};
+use fbr::{Answer, Cache, CountClass, Memory, NotTaken, Occupancy, Parts, Refusal, Totals, View, Work};
 use std::hint::black_box;
 
-const WRAPPER: Tested = Tested { fresh, batch, sound: fbr::sound, look };
+const WRAPPER: Tested = Tested { fresh, batch, sound: fbr::sound, look, occupancy };
 
 fn wrapped(s: Settings) -> fbr::Settings {
     fbr::Settings { n: s.n, nnew: s.nnew, nold: s.nold, cmax: s.cmax, amax: s.amax, b: s.b, m: s.m }
@@ -30,6 +31,17 @@ fn batch(
 
 fn look(directory: &mut [u32], data: &mut [u8], store: &mut [u8], block: u32, out: &mut [u8]) -> usize {
     Memory { directory, data, store }.look_into(block, out).unwrap_or(0)
+}
+
+fn figures(occupancy: &Occupancy) -> Table {
+    let column = |of: fn(&CountClass) -> u32| occupancy.classes.iter().map(of);
+    column(|class| class.residents).chain(column(|class| class.modified)).collect::<Vec<_>>().try_into().unwrap()
+}
+fn occupancy(directory: &[u32]) -> (u32, Table) {
+    match (View { directory, data: &[], store: &[] }).occupancy() {
+        Ok(occupancy) => (0, figures(&occupancy)),
+        Err(refusal) => (refusal.number(), NONE),
+    }
 }
 
 /// The answer as a word again, by the reference's numbers.
@@ -89,6 +101,7 @@ fn histories_through_the_wrapper() {
         assert_eq!(memory.look_into(s.m - 1, &mut short), Err(Refusal::ShortBuffer));
         assert_eq!(short, earlier);
         assert_eq!((memory.settings(), memory.totals()), (Ok(wrapped(s)), Ok(totals_of(&beside.stack))));
+        assert_eq!(memory.occupancy().map(|table| figures(&table)), Ok(of_stack(&beside.stack)));
     }
     println!("calls that returned 0 to 11: {numbers:?}; {looks} looks, {answers} answers");
     assert!((0..=11).all(|number| numbers[number] > 10));
@@ -144,6 +157,7 @@ impl Pair {
         assert_eq!(beside::residents(parts.directory, parts.data), stack.residents);
         assert!(self.cache.store() == stack.store && parts.store == stack.store, "store");
         assert_eq!(self.cache.totals(), Ok(totals_of(stack)));
+        assert_eq!(self.cache.occupancy().map(|table| figures(&table)), Ok(of_stack(stack)));
         assert_eq!(self.cache.settings(), Ok(wrapped(stack.settings)));
     }
 
@@ -273,6 +287,7 @@ fn totals_beside_the_plain_stack() {
         check_totals(&mut rng, &damaged, 6, [0; 4]);
         let memory = Memory { directory: &mut damaged, data: &mut beside.data, store: &mut beside.store };
         assert_eq!((memory.totals(), memory.settings()), (Err(Refusal::Unsound), Err(Refusal::Unsound)));
+        assert_eq!(memory.occupancy(), Err(Refusal::Unsound));
     }
     assert!(above_a_word > 100, "{above_a_word}");
     check_totals(&mut rng, &[], 6, [0; 4]);

@@ -1,4 +1,4 @@
-use crate::{fresh, Answer, Memory, Refusal, Settings, Totals, View, Work};
+use crate::{fresh, Answer, Memory, Occupancy, Refusal, Settings, Totals, View, Work};
 use std::fmt;
 use std::slice::ChunksExact;
 
@@ -105,6 +105,15 @@ impl Cache {
     /// 6, only where [`Cache::memory`] was used to change the directory.
     pub fn totals(&self) -> Result<Totals, Refusal> {
         self.parts().totals()
+    }
+
+    /// The residents by count class, and how many of each class are modified.
+    ///
+    /// # Errors
+    ///
+    /// 6, only where [`Cache::memory`] was used to change the directory.
+    pub fn occupancy(&self) -> Result<Occupancy, Refusal> {
+        self.parts().occupancy()
     }
 
     /// The settings that the cache was started with.

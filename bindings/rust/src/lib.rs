@@ -21,6 +21,7 @@
 
 mod cache;
 mod memory;
+mod occupancy;
 mod refusal;
 mod settings;
 pub mod sys;
@@ -31,6 +32,7 @@ mod words;
 
 pub use cache::{Cache, NotTaken, Parts, Ran};
 pub use memory::{Memory, View};
+pub use occupancy::{CountClass, Occupancy};
 pub use refusal::Refusal;
 pub use settings::Settings;
 pub use totals::Totals;

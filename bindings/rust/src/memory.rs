@@ -1,6 +1,7 @@
+use crate::occupancy;
 use crate::refusal::outcome;
 use crate::words::MAX_VALUE;
-use crate::{sound, sys, Refusal, Settings, Totals};
+use crate::{sound, sys, Occupancy, Refusal, Settings, Totals};
 use std::fmt;
 
 /// The largest block size.
@@ -123,6 +124,15 @@ impl Memory<'_> {
         self.view().totals()
     }
 
+    /// As [`View::occupancy`].
+    ///
+    /// # Errors
+    ///
+    /// 6.
+    pub fn occupancy(&self) -> Result<Occupancy, Refusal> {
+        self.view().occupancy()
+    }
+
     /// As [`View::settings`].
     ///
     /// # Errors
@@ -201,6 +211,20 @@ impl View<'_> {
         })?;
         let [reads, writes, ins, outs] = out;
         Ok(Totals { reads, writes, ins, outs })
+    }
+
+    /// The residents by count class, and how many of each class are modified.
+    ///
+    /// # Errors
+    ///
+    /// 6.
+    pub fn occupancy(&self) -> Result<Occupancy, Refusal> {
+        let mut out = [0; occupancy::WORDS];
+        // SAFETY: a Rust slice, which the call only reads, and `out`, which is borrowed alone.
+        outcome(unsafe {
+            sys::fbr_occupancy(self.directory.as_ptr(), self.directory.len(), out.as_mut_ptr(), out.len())
+        })?;
+        Ok(Occupancy::from_words(out))
     }
 
     /// The settings that the directory was started with.

@@ -3,7 +3,7 @@ use std::fmt;
 /// Why a call declined. A declined call has changed nothing.
 ///
 /// The cases are checked in this order. [`fresh`](crate::fresh) gives 1 to 5, a batch 6 to 11, a look 6, 7 or 9, a look
-/// into a buffer 10 too, totals and settings 6. [`Cache::new`](crate::Cache::new) gives 1 to 4 and 7,
+/// into a buffer 10 too, totals, occupancy and settings 6. [`Cache::new`](crate::Cache::new) gives 1 to 4 and 7,
 /// [`Cache::from_parts`](crate::Cache::from_parts) 6 and 7.
 #[derive(Clone, Copy, Debug, PartialEq, Eq, Hash)]
 #[non_exhaustive]

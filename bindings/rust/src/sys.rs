@@ -45,6 +45,11 @@ extern "C" {
     /// writes four 0s.
     pub fn fbr_totals(dir: *const u32, dir_len: usize, out: *mut u64, out_len: usize) -> u32;
 
+    /// The occupancy by count class, to the front of `out`: the residents of the eight classes, then the modified
+    /// residents of the eight; the rest of `out` stays. Returns 0; 10 where `out_len` is below 16, and leaves `out` as
+    /// it was; 6 where the directory is not sound, and writes sixteen 0s.
+    pub fn fbr_occupancy(dir: *const u32, dir_len: usize, out: *mut u32, out_len: usize) -> u32;
+
     /// The 32-bit FNV-1a of a block number's four bytes, low byte first.
     pub fn fbr_hash(block: u32) -> u32;
 

@@ -2,6 +2,7 @@ use crate::refusal::outcome;
 use crate::{fresh, sound, Answer, Memory, Refusal, Settings, Totals, Work};
 
 mod cache;
+mod occupancy;
 
 const BELT: Settings = Settings { n: 4, nnew: 1, nold: 2, cmax: 3, amax: 100, b: 8, m: 64 };
 const ONE: Settings = Settings { n: 1, nnew: 0, nold: 1, cmax: 1, amax: 10, b: 8, m: 64 };

@@ -1,6 +1,7 @@
 //! A cache under test beside the plain stack: the same calls to both, and everything compared after each.
 use super::builder::Plan;
 use super::directory::{entry, header, kind, settings_of, value, Map, VALUE_BITS};
+use super::occupancy::{self, Table};
 use super::settings::directory_length;
 use super::stack::{self, answer, work, Lent, PlainStack};
 use super::{fast_judge, judge};
@@ -18,6 +19,8 @@ pub struct Tested {
     pub batch: Batch,
     pub sound: fn(&[u32]) -> bool,
     pub look: Look,
+    /// Of any words.
+    pub occupancy: fn(&[u32]) -> (u32, Table),
 }
 
 /// What a batch brings, with the earlier contents of its buffers, and how far data and store are lent.
@@ -127,9 +130,10 @@ impl Beside {
         self.run(call, expected, &answers, &outgoing)
     }
 
-    /// The batch over other directory words, which are not sound: 6, and nothing changes.
+    /// The batch over other directory words, which are not sound: 6, and nothing changes. No figures either.
     pub fn call_over(&mut self, unsound: Vec<u32>, call: &Call) {
         assert!(!judge::sound(&unsound) && !fast_judge::sound(&unsound), "the damage left the directory sound");
+        assert_eq!((self.tested.occupancy)(&unsound), (6, occupancy::NONE), "occupancy of an unsound directory");
         let dir = std::mem::replace(&mut self.dir, unsound);
         self.run(call, 6, &call.answers, &call.outgoing);
         self.dir = dir;
@@ -197,7 +201,7 @@ impl Beside {
         assert!(self.dir == before.0 && self.data == before.1 && self.store == before.2, "a look changed something");
     }
 
-    /// Residents along the stack links with their bytes from the data buffer, store, totals and soundness.
+    /// Residents along the stack links with their bytes from the data buffer, store, totals, occupancy and soundness.
     fn check_state(&self, told: &str) {
         let s = settings_of(&self.dir);
         assert_eq!(s, self.stack.settings, "settings words: {told}");
@@ -211,6 +215,7 @@ impl Beside {
         let stack = &self.stack;
         let totals = [stack.reads, stack.writes, stack.ins, stack.outs];
         assert_eq!(lows.map(|low| total(&self.dir, low)), totals, "totals: {told}");
+        assert_eq!((self.tested.occupancy)(&self.dir), (0, occupancy::of_stack(stack)), "occupancy: {told}");
     }
 
     /// Data past N × B stays; bytes of an entry that is unused now stay, or came with this batch.

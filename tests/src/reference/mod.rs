@@ -9,6 +9,7 @@ pub mod fnv;
 pub mod histories;
 pub mod judge;
 pub mod lru_cache;
+pub mod occupancy;
 pub mod rng;
 pub mod samples;
 pub mod settings;

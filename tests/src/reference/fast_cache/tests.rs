@@ -3,7 +3,7 @@ use super::{batch, batch_by_loop, look};
 use crate::reference::beside::{Seen, Tested};
 use crate::reference::directory::fresh_words;
 use crate::reference::rng::Rng;
-use crate::reference::{fast_judge, histories, settings};
+use crate::reference::{fast_judge, histories, occupancy, settings};
 use crate::Settings;
 
 fn fresh(s: Settings, dir: &mut [u32]) -> u32 {
@@ -25,7 +25,8 @@ fn look_into(dir: &mut [u32], data: &mut [u8], store: &mut [u8], block: u32, out
     part.len()
 }
 
-const PLAIN: Tested = Tested { fresh, batch, sound: fast_judge::sound, look: look_into };
+const PLAIN: Tested =
+    Tested { fresh, batch, sound: fast_judge::sound, look: look_into, occupancy: occupancy::of_words };
 
 #[test]
 fn random_histories() {
