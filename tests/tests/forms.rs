@@ -104,7 +104,7 @@ fn a_look_returns_a_part_of_one_of_two_slices() {
 /// The arms that the class of a count is worked out by: the request's classes, and a last one for what no resident has.
 const CLASS_ARMS: [&str; 9] = [
     "1 => 0", "2 => 1", "3..=4 => 2", "5..=8 => 3", "9..=16 => 4", "17..=64 => 5", "65..=1000 => 6",
-    "1001..=65535 => 7", "_ => 8",
+    "1001..=65535 => 7", "_ => CLASSES",
 ];
 
 /// The body of `class_of` is one `match` with ranges, without an `if` or a table, and no other place of the crate has

@@ -2,16 +2,16 @@
 use Prim.Native.Nat.{ℕ, zero, suc, _+_, _≤_, _<_}
 use native.Mathlib.Omega.{arith}
 use mathlib.Core.Path.{_≡_, refl, sym, ap, subst, _∙_}
-use mathlib.Core.Bool.{Bool, true, false}
+use mathlib.Core.Bool.{Bool, true}
 use mathlib.Core.List.{List, [], _∷_, _++_, map}
 use lib.ListN.{length, getD, take, length-map}
 use lib.Dec.{T}
 use lib.Seq.{take-length, length-take-le}
-use Rattle.basics.specs.Basics.{All, total}
+use Rattle.basics.specs.Basics.{All, bit, total}
 use Rattle.stack.specs.Recency.{Resident}
 use Rattle.stack.specs.PlaceLaws.{Legal}
 use Rattle.stack.specs.Occupancy.{classOf, column, table}
-use Rattle.stack.specs.OccupancyLaws.{raised, column-raised, column-kept, column-few}
+use Rattle.stack.specs.OccupancyLaws.{raised, column-more, column-few}
 use Rattle.layout.specs.Sound.{order, sound, residentAt, residentsIn, view}
 use Rattle.layout.specs.SoundLaws.{sound-legal, sound-residents, sound-kept}
 use Rattle.promises.specs.DirectoryPromises.{entryAt, NextOf}
@@ -20,23 +20,14 @@ use Rattle.occupancy.specs.Tallies.{Shows, Room, Walked}
 
 -- ---- one resident more
 
-module _ (residents modified : List ℕ) (l : List (Resident ℕ)) (x : Resident ℕ) (legal : Legal (x .count)) (shows : Shows residents modified l) (class : ℕ) (class-is : class ≡ classOf (x .count)) where
-  one-more : (column-before : List ℕ) (test : Resident ℕ → Bool) → column-before ≡ column test l → test x ≡ true → raised column-before class ≡ column test (l ++ (x ∷ []))
-  one-more c test e t = rw (class-is, e) (sym (column-raised test l x legal t))
-
-  pub shows-modified : x .modified ≡ true → Shows (raised residents class) (raised modified class) (l ++ (x ∷ []))
-  shows-modified e =
-      record {
-        residents-are = one-more residents (λ y. true) (shows .residents-are) refl;
-        modified-are = one-more modified (λ y. y .modified) (shows .modified-are) e;
-      }
-
-  pub shows-unmodified : x .modified ≡ false → Shows (raised residents class) modified (l ++ (x ∷ []))
-  shows-unmodified e =
-      record {
-        residents-are = one-more residents (λ y. true) (shows .residents-are) refl;
-        modified-are = shows .modified-are ∙ sym (column-kept (λ y. y .modified) l x e);
-      }
+pub shows-more : (residents modified : List ℕ) (l : List (Resident ℕ)) (x : Resident ℕ) (class mark : ℕ)
+    → Legal (x .count) → class ≡ classOf (x .count) → mark ≡ bit (x .modified)
+    → Shows residents modified l → Shows (raised residents class 1) (raised modified class mark) (l ++ (x ∷ []))
+shows-more residents modified l x class mark legal class-is mark-is shows =
+    record {
+      residents-are = rw (class-is, shows .residents-are) (sym (column-more (λ y. true) l x legal));
+      modified-are = rw (class-is, mark-is, shows .modified-are) (sym (column-more (λ y. y .modified) l x legal));
+    }
 
 -- ---- along the stack
 

@@ -60,9 +60,7 @@ fn and_resident(t: Table, count: u32, modified: bool) -> Table
     let mut residents = t.residents;
     let mut marked = t.modified;
     residents[class] += 1;
-    if modified {
-        marked[class] += 1;
-    }
+    marked[class] += modified as u32;
     Table {
         number: t.number,
         residents: residents,

@@ -141,9 +141,14 @@ plus [] ys = []
 plus (x ∷ xs) [] = x ∷ xs
 plus (x ∷ xs) (y ∷ ys) = (x + y) ∷ plus xs ys
 
--- a column with one more at a place
-abbrev pub raised : List ℕ → ℕ → List ℕ
-raised xs i = set xs i (getD xs i 0 + 1)
+-- a column with so many more at a place
+abbrev pub raised : List ℕ → ℕ → ℕ → List ℕ
+raised xs i n = set xs i (getD xs i 0 + n)
+
+raised-none : (xs : List ℕ) (i : ℕ) → raised xs i 0 ≡ xs
+raised-none [] i = refl
+raised-none (x ∷ xs) zero = ap (λ n. n ∷ xs) (omega arith)
+raised-none (x ∷ xs) (suc i) = ap (λ l. x ∷ l) (raised-none xs i)
 
 plus-none : (xs ys : List ℕ) → total ys ≡ 0 → plus xs ys ≡ xs
 unfolding total
@@ -151,16 +156,16 @@ plus-none [] ys e = refl
 plus-none (x ∷ xs) [] e = refl
 plus-none (x ∷ xs) (y ∷ ys) e = ap₂ _∷_ (omega arith) (plus-none xs ys (omega arith))
 
-plus-one : (xs ys : List ℕ) → length ys ≤ length xs → total ys ≡ 1 → plus xs ys ≡ raised xs (indexOf 1 ys)
+plus-one : (xs ys : List ℕ) → length ys ≤ length xs → total ys ≡ 1 → plus xs ys ≡ raised xs (indexOf 1 ys) 1
 unfolding total indexOf
 plus-one xs [] long e = absurd (omega arith)
 plus-one [] (y ∷ ys) long e = absurd (omega arith)
 plus-one (x ∷ xs) (y ∷ ys) long e = go (ℕ-discrete y 1) (plus-one xs ys (omega arith))
   where
-    go : Dec (y ≡ 1) → (total ys ≡ 1 → plus xs ys ≡ raised xs (indexOf 1 ys))
-        → (x + y) ∷ plus xs ys ≡ raised (x ∷ xs) (if eqb y 1 then 0 else suc (indexOf 1 ys))
+    go : Dec (y ≡ 1) → (total ys ≡ 1 → plus xs ys ≡ raised xs (indexOf 1 ys) 1)
+        → (x + y) ∷ plus xs ys ≡ raised (x ∷ xs) (if eqb y 1 then 0 else suc (indexOf 1 ys)) 1
     go (yes one) later = rw (eq-eqb y 1 one, one, plus-none xs ys (omega arith))
-    go (no other) later = rw (ne-eqb y 1 other, later (omega arith)) (ap (λ n. n ∷ raised xs (indexOf 1 ys)) (omega arith))
+    go (no other) later = rw (ne-eqb y 1 other, later (omega arith)) (ap (λ n. n ∷ raised xs (indexOf 1 ys) 1) (omega arith))
 
 module _ {A K : Type 0} (f : K → A → ℕ) (l : List A) (x : A) where
   sums-joined : (ks : List K) → map (λ k. sum (f k) (l ++ (x ∷ []))) ks ≡ plus (map (λ k. sum (f k) l) ks) (map (λ k. f k x) ks)
@@ -168,20 +173,15 @@ module _ {A K : Type 0} (f : K → A → ℕ) (l : List A) (x : A) where
   sums-joined [] = refl
   sums-joined (k ∷ ks) = ap₂ _∷_ (omega (arith, sum-join (f k) l (x ∷ []))) (sums-joined ks)
 
-module _ {A : Type 0} (test : Resident A → Bool) (l : List (Resident A)) (x : Resident A) where
-  column-joined : (passes : Bool) → test x ≡ passes → column test (l ++ (x ∷ [])) ≡ plus (column test l) (shown passes (x .count))
-  unfolding column
-  column-joined passes e =
-      sums-joined (λ class y. bit (test y && inClass (y .count) class)) l x classes ∙ ap (λ b. plus (column test l) (shown b (x .count))) e
-
-  pub column-raised : Legal (x .count) → test x ≡ true → column test (l ++ (x ∷ [])) ≡ raised (column test l) (classOf (x .count))
-  unfolding column classOf
-  column-raised legal e =
-      column-joined true e ∙ plus-one (column test l) (shown true (x .count)) (omega arith) (one-class (x .count) (legal .0) (legal .1))
-
-  pub column-kept : test x ≡ false → column test (l ++ (x ∷ [])) ≡ column test l
-  unfolding total
-  column-kept e = column-joined false e ∙ plus-none (column test l) (shown false (x .count)) refl
+-- a resident more: 1 more in its class where it passes the test
+pub column-more : {A : Type 0} (test : Resident A → Bool) (l : List (Resident A)) (x : Resident A) → Legal (x .count)
+    → column test (l ++ (x ∷ [])) ≡ raised (column test l) (classOf (x .count)) (bit (test x))
+unfolding column classOf total
+column-more test l x legal = sums-joined (λ class y. bit (test y && inClass (y .count) class)) l x classes ∙ go (test x)
+  where
+    go : (passes : Bool) → plus (column test l) (shown passes (x .count)) ≡ raised (column test l) (classOf (x .count)) (bit passes)
+    go true = plus-one (column test l) (shown true (x .count)) (omega arith) (one-class (x .count) (legal .0) (legal .1))
+    go false = plus-none (column test l) (shown false (x .count)) refl ∙ sym (raised-none (column test l) (classOf (x .count)))
 
 -- ---- what a column adds up to
 
