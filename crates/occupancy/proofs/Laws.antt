@@ -66,11 +66,11 @@ module _ (words : List ℕ) where
           let n : length (take p (residentsIn words)) ≡ p = length-take-le p (residentsIn words) (omega arith) in
           omega (arith, column-few test (take p (residentsIn words)) i, n, left, few)
 
-      pub room : (count : ℕ) → count ≡ residentAt words e .count → Room residents modified count
+      pub room : Room residents modified (residentAt words e .count)
       unfolding view
-      room count is =
+      room =
           record {
-            legal = rw (is, w .entry) (at-position (λ x. Legal (x .count)) (order words) p inside (sound-kept words h [] .legal));
+            legal = rw (w .entry) (at-position (λ x. Legal (x .count)) (order words) p inside (sound-kept words h [] .legal));
             residents-few = λ i. rw (w .shows .residents-are) (figure-few (λ x. true) i);
             modified-few = λ i. rw (w .shows .modified-are) (figure-few (λ x. x .modified) i);
           }

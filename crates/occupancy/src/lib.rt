@@ -5,8 +5,8 @@ ghost use Prim.Native.Nat.{ℕ};
 ghost use lib.Dec.{T};
 ghost use Rattle.stack.specs.Recency.{Resident};
 ghost use Rattle.stack.specs.Occupancy.{classOf, table};
-ghost use Rattle.layout.specs.Sound.{sound, residentsIn};
-ghost use Rattle.promises.specs.Occupancy.{occupancyNumber, noFigures, tableIn};
+ghost use Rattle.layout.specs.Sound.{sound, residentAt, residentsIn};
+ghost use Rattle.promises.specs.Occupancy.{occupancyNumber, tableIn};
 ghost use Rattle.occupancy.specs.Tallies.{Shows, Room};
 
 const ACCEPTED: u32 = 0;
@@ -39,33 +39,16 @@ fn class_of(count: u32) -> usize
     }
 }
 
-// The table of no residents, with a number.
-fn no_figures(number: u32) -> Table
-    ensures { λ r. ⌜ (r .number ≡ number) × (r .residents ≡ noFigures .residents) × (r .modified ≡ noFigures .modified) ⌝ }
+// The resident of entry e is counted in its class.
+fn and_resident(dir: &[u32], e: u32, residents: &mut [u32; CLASSES], modified: &mut [u32; CLASSES])
+    requires { ⌜ T (sound (now dir)) × Room (now residents) (now modified) (residentAt (now dir) e .count) ⌝ }
+    ensures { λ _. ⌜ ((l : List (Resident ℕ)) → Shows (now (residents .entry)) (now (modified .entry)) l
+        → Shows (now (residents .exit)) (now (modified .exit)) (l ++ (residentAt (now (dir .entry)) e ∷ []))) ⌝ }
 {
-    Table {
-        number: number,
-        residents: [0; CLASSES],
-        modified: [0; CLASSES],
-    }
-}
-
-// One resident more in a table.
-fn and_resident(t: Table, count: u32, modified: bool) -> Table
-    requires { ⌜ Room (t .residents) (t .modified) count ⌝ }
-    ensures { λ r. ⌜ (r .number ≡ t .number) × ((l : List (Resident ℕ)) (x : Resident ℕ) → x .count ≡ count → x .modified ≡ modified
-        → Shows (t .residents) (t .modified) l → Shows (r .residents) (r .modified) (l ++ (x ∷ []))) ⌝ }
-{
-    let class = class_of(count);
-    let mut residents = t.residents;
-    let mut marked = t.modified;
+    let class = class_of(directory::count_of(dir, e));
+    let mark = directory::is_modified(dir, e) as u32;
     residents[class] += 1;
-    marked[class] += modified as u32;
-    Table {
-        number: t.number,
-        residents: residents,
-        modified: marked,
-    }
+    modified[class] += mark;
 }
 
 // The table of a sound directory, resident by resident along the stack.
@@ -75,19 +58,21 @@ fn table_of(dir: &[u32]) -> Table
         × (r .modified ≡ table (residentsIn (now (dir .entry))) .modified) ⌝ }
 {
     let count = directory::residents(dir);
-    let mut t = no_figures(ACCEPTED);
+    let mut residents = [0; CLASSES];
+    let mut modified = [0; CLASSES];
     let mut e = directory::first(dir);
     let mut p = 0;
     while p < count {
-        t = and_resident(
-            t,
-            directory::count_of(dir, e),
-            directory::is_modified(dir, e),
-        );
-        e = directory::next(dir, e);
+        let behind = directory::next(dir, e);
+        and_resident(dir, e, &mut residents, &mut modified);
+        e = behind;
         p += 1;
     }
-    t
+    Table {
+        number: ACCEPTED,
+        residents: residents,
+        modified: modified,
+    }
 }
 
 // The occupancy of a directory, for any slice of words: 6 and sixteen 0s where they are not sound.
@@ -96,7 +81,11 @@ pub fn occupancy(dir: &[u32]) -> Table
         × (r .modified ≡ tableIn (now (dir .entry)) .modified) ⌝ }
 {
     if !soundness::sound(dir) {
-        return no_figures(UNSOUND);
+        return Table {
+            number: UNSOUND,
+            residents: [0; CLASSES],
+            modified: [0; CLASSES],
+        };
     }
     table_of(dir)
 }

@@ -1,6 +1,6 @@
 use Prim.Native.Nat.{ℕ, _≤_, _<_}
 use native.Mathlib.Omega.{arith}
-use mathlib.Core.Path.{_≡_, refl, sym, ap, _∙_}
+use mathlib.Core.Path.{_≡_, refl, ap, _∙_}
 use mathlib.Core.Bool.{Bool, true, false}
 use mir.Val.{boolByte}
 use borrow.Author.Needs.{needs}
@@ -13,11 +13,13 @@ use Rattle.occupancy.proofs.and_resident.Statement.{statement}
 use Rattle.occupancy.proofs.and_resident.Tie as tie
 use Rattle.occupancy.proofs.and_resident.Reads as reads
 use Rattle.occupancy.proofs.and_resident.Lts as lts
+use Rattle.directory.proofs.count_of.Reads as count-of-reads
+use Rattle.directory.proofs.is_modified.Reads as is-modified-reads
 use Rattle.occupancy.proofs.class_of.Reads as class-of-reads
 
 -- the count has a class
-class-fits : (class count : ℕ) → class ≡ classOf count → Legal count → class < 8
-class-fits class count is legal = rw is (class-below count legal)
+class-fits : (class count listed : ℕ) → class ≡ classOf count → count ≡ listed → Legal listed → class < 8
+class-fits class count listed class-is count-is legal = rw (class-is, count-is) (class-below listed legal)
 
 -- a mark as a number
 mark-few : (b : Bool) → boolByte b ≤ 1
@@ -28,63 +30,75 @@ mark-is : (b : Bool) → boolByte b ≡ bit b
 mark-is true = refl
 mark-is false = refl
 
+count-of-requires : tie.Need-count-of-requires
+count-of-requires c κs = search needs
+
 class-of-requires : tie.Need-class-of-requires
 class-of-requires c κs = search needs
 
-array-read-residents : tie.Need-array-read-residents
-array-read-residents c = class-fits _ _ (c .before .before .class-of .ensures) (c .before .before .before .pre .legal)
+is-modified-requires : tie.Need-is-modified-requires
+is-modified-requires c κs = search needs
+
+cast-mark : tie.Need-cast-mark
+cast-mark c = search needs
+
+element-copy-out-residents : tie.Need-element-copy-out-residents
+element-copy-out-residents c =
+    let k = c .before in
+    class-fits _ _ _ (k .class-of .ensures) (k .before .count-of .ensures) (k .before .before .before .pre .1 .legal)
 
 mul-residents : tie.Need-mul-residents
-mul-residents c = let h = array-read-residents c in search needs
+mul-residents c = let h = element-copy-out-residents c in search needs
 
 add-residents : tie.Need-add-residents
-add-residents c = let h = c .before .before .before .pre .residents-few (c .before .before .class-of .result) in search needs
-
-array-write-residents : tie.Need-array-write-residents
-array-write-residents c = array-read-residents c
-
-cast-marked : tie.Need-cast-marked
-cast-marked c = search needs
-
-array-read-marked : tie.Need-array-read-marked
-array-read-marked c = array-read-residents c
-
-mul-marked : tie.Need-mul-marked
-mul-marked c = mul-residents c
-
-add-marked : tie.Need-add-marked
-add-marked c =
-    let s = c .before .before .before in
-    let h = s .pre .modified-few (c .before .before .class-of .result) in
-    let h′ = s .pre .residents-few (c .before .before .class-of .result) in
-    let g = mark-few (s .args .modified) in
+add-residents c =
+    let k = c .before .before in
+    let h = k .before .before .before .pre .1 .residents-few (k .class-of .result) in
+    let g = mark-few (c .before .is-modified .result) in
     search needs
 
-array-write-marked : tie.Need-array-write-marked
-array-write-marked c = array-read-residents c
+element-write-residents : tie.Need-element-write-residents
+element-write-residents c = element-copy-out-residents (c .before)
+
+element-copy-out-modified : tie.Need-element-copy-out-modified
+element-copy-out-modified c = element-copy-out-residents (c .before)
+
+mul-modified : tie.Need-mul-modified
+mul-modified c = mul-residents (c .before)
+
+add-modified : tie.Need-add-modified
+add-modified c =
+    let k = c .before .before .before in
+    let h = k .before .before .before .pre .1 .modified-few (k .class-of .result) in
+    let g = mark-few (c .before .before .is-modified .result) in
+    search needs
+
+element-write-modified : tie.Need-element-write-modified
+element-write-modified c = element-copy-out-residents (c .before .before)
 
 returns : tie.Need-returns
 returns c =
-    let k = c .before .before in
-    let s = k .before in (
-      refl,
-      λ l x count-is marked shows.
-          shows-more (s .args .t .residents) (s .args .t .modified) l x _ _
-          (rw count-is (s .pre .legal)) (k .class-of .ensures ∙ ap classOf (sym count-is)) (mark-is (s .args .modified) ∙ ap bit (sym marked)) shows,
-    )
+    let m = c .before .before .is-modified in
+    let k = c .before .before .before in
+    let s = k .before .before .before in
+    λ l shows.
+    shows-more (s .args .residents .now) (s .args .modified .now) l _ _ _
+    (s .pre .1 .legal) (k .class-of .ensures ∙ ap classOf (k .before .count-of .ensures)) (mark-is (m .result) ∙ ap bit (m .ensures)) shows
 
 pub and-resident-spec : {M : Type 1} → statement M
 and-resident-spec =
     tie.close
     (tie.spec
+    count-of-requires
     class-of-requires
+    is-modified-requires
+    cast-mark
     mul-residents
-    array-read-residents
+    element-copy-out-residents
     add-residents
-    array-write-residents
-    cast-marked
-    mul-marked
-    array-read-marked
-    add-marked
-    array-write-marked
+    element-write-residents
+    mul-modified
+    element-copy-out-modified
+    add-modified
+    element-write-modified
     returns)
