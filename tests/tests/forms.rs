@@ -149,7 +149,7 @@ fn the_cache_never_sees_a_link() {
     ];
     let layout = source("layout/src/lib.rt");
     assert!(links.iter().all(|link| layout.contains(&format!("pub const {link}: u32"))));
-    for name in ["cache_steps", "flushing", "accesses", "cache", "looks"] {
+    for name in ["cache_steps", "flushing", "accesses", "cache", "looks", "occupancy"] {
         let listed = listed(name);
         assert!(under.iter().all(|part| !listed.iter().any(|crate_listed| crate_listed == part)), "{name}: {listed:?}");
         for path in files(&root().join("crates").join(name)) {
@@ -193,7 +193,7 @@ fn quoted(text: &str) -> Vec<&str> {
     text.split('`').skip(1).step_by(2).collect()
 }
 
-/// Each public function of the C interface, the directory, the settings, FNV-1a and the numbers has two wrong programs of its own:
+/// Each public function of the C interface, the directory, the settings, FNV-1a, the numbers and the occupancy has two wrong programs:
 /// docs/PROOFS.md names them, a group of its own for each function, and they are there.
 #[test]
 fn every_public_function_has_two_wrong_programs() {
@@ -214,7 +214,7 @@ fn every_public_function_has_two_wrong_programs() {
         }
         told.extend(functions.iter().map(|name| name.rsplit("::").next().unwrap()));
     }
-    for name in ["fbr", "directory", "settings", "fnv", "numbers"] {
+    for name in ["fbr", "directory", "settings", "fnv", "numbers", "occupancy"] {
         for line in source(&format!("{name}/src/lib.rt")).lines().map(str::trim) {
             let Some(rest) = line.strip_prefix("pub fn ").or(line.strip_prefix("pub extern \"C\" fn ")) else {
                 continue;

@@ -9,10 +9,12 @@ ghost use Rattle.layout.specs.Sound.{sound, residentAt, residentsIn};
 ghost use Rattle.promises.specs.Occupancy.{occupancyNumber, tableIn};
 ghost use Rattle.occupancy.specs.Tallies.{Shows, Room};
 
+// The numbers of the call.
 const ACCEPTED: u32 = 0;
 
 const UNSOUND: u32 = 6;
 
+// How many classes there are.
 pub const CLASSES: usize = 8;
 
 // The number, and for each class its residents and how many of these are modified.
