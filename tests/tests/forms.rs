@@ -193,7 +193,8 @@ fn quoted(text: &str) -> Vec<&str> {
     text.split('`').skip(1).step_by(2).collect()
 }
 
-/// Each public function of the C interface, the directory, the settings, FNV-1a, the numbers and the occupancy has two wrong programs:
+/// Each public function of the C interface, the directory, the settings, FNV-1a, the numbers and the occupancy has two
+/// wrong programs:
 /// docs/PROOFS.md names them, a group of its own for each function, and they are there.
 #[test]
 fn every_public_function_has_two_wrong_programs() {

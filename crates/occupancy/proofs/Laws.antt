@@ -10,7 +10,7 @@ use lib.Seq.{take-length, length-take-le}
 use Rattle.basics.specs.Basics.{All, bit, total}
 use Rattle.stack.specs.Recency.{Resident}
 use Rattle.stack.specs.PlaceLaws.{Legal}
-use Rattle.stack.specs.Occupancy.{classOf, column, table}
+use Rattle.stack.specs.Occupancy.{classOf, column}
 use Rattle.stack.specs.OccupancyLaws.{raised, column-more, column-few}
 use Rattle.layout.specs.Sound.{order, sound, residentAt, residentsIn, view}
 use Rattle.layout.specs.SoundLaws.{sound-legal, sound-residents, sound-kept}
@@ -36,7 +36,8 @@ module _ (words : List ℕ) where
   listed = map (residentAt words)
 
   -- the resident at a position is the one of its entry
-  one-further : (es : List ℕ) (p : ℕ) → p < length es → take (suc p) (listed es) ≡ take p (listed es) ++ (residentAt words (entryAt (listed es) p) ∷ [])
+  one-further : (es : List ℕ) (p : ℕ) → p < length es
+      → take (suc p) (listed es) ≡ take p (listed es) ++ (residentAt words (entryAt (listed es) p) ∷ [])
   unfolding residentAt
   one-further [] p h = absurd (omega arith)
   one-further (e ∷ es) zero h = refl
@@ -48,8 +49,8 @@ module _ (words : List ℕ) where
   at-position P (e ∷ es) zero h a = a .0
   at-position P (e ∷ es) (suc p) h a = at-position P es p (omega arith) (a .1)
 
-  pub walk-begins : (residents modified : List ℕ) (e : ℕ) → residents ≡ noFigures .residents → modified ≡ noFigures .modified → e ≡ entryAt (residentsIn words) 0
-      → Walked words 0 residents modified e
+  pub walk-begins : (residents modified : List ℕ) (e : ℕ) → residents ≡ noFigures .residents → modified ≡ noFigures .modified
+      → e ≡ entryAt (residentsIn words) 0 → Walked words 0 residents modified e
   unfolding column total
   walk-begins residents modified e r m first = record { shows = record { residents-are = r; modified-are = m }; entry = first }
 
@@ -76,7 +77,8 @@ module _ (words : List ℕ) where
           }
 
       -- behind the resident at position p
-      pub walk-goes-on : (r m : List ℕ) (next : ℕ) → Shows r m (take p (residentsIn words) ++ (residentAt words e ∷ [])) → NextOf words e next → Walked words (p + 1) r m next
+      pub walk-goes-on : (r m : List ℕ) (next : ℕ) → Shows r m (take p (residentsIn words) ++ (residentAt words e ∷ []))
+          → NextOf words e next → Walked words (p + 1) r m next
       walk-goes-on r m next shows n =
           let next-p : suc p ≡ p + 1 = omega arith in
           let further : take p (residentsIn words) ++ (residentAt words e ∷ []) ≡ take (p + 1) (residentsIn words) =

@@ -3,7 +3,7 @@ use Prim.Native.Nat.{ℕ, _+_, _*_}
 use native.Mathlib.Omega.{arith}
 use mathlib.Core.Path.{_≡_, refl, sym, ap, _∙_}
 use mathlib.Core.Bool.{Bool, true, false}
-use mathlib.Core.List.{List, [], _∷_, _++_, map}
+use mathlib.Core.List.{List, [], _∷_, _++_}
 use lib.ListN.{length, length-map, take}
 use lib.Dec.{T, eqb}
 use mir.Facts.{eqb-yes}
@@ -12,7 +12,7 @@ use Rattle.basics.specs.ListLaws.{all-yes, yes-all}
 use Rattle.basics.specs.Lists.{all, counting}
 use Rattle.basics.specs.TestLaws.{if-yes}
 use Rattle.basics.specs.TotalLaws.{sum, sum-join, sum-map, sum-any-order}
-use Rattle.stack.specs.OccupancyLaws.{one-class, residents-sum, modified-sum, table-hold}
+use Rattle.stack.specs.OccupancyLaws.{one-class, class-found, residents-sum, modified-sum, table-hold}
 use Rattle.stack.specs.Entries.{entryBytes}
 use Rattle.stack.specs.PlaceLaws.{Legal}
 use Rattle.stack.specs.Stack.{Plain, marks}
@@ -27,7 +27,7 @@ use Rattle.promises.specs.Occupancy.{occupancyNumber, noFigures, tableIn
 use Rattle.stack.specs.Occupancy.{column, Table, table}
 
 pub one-class-each : OneClass
-one-class-each = one-class
+one-class-each count low high = (one-class count low high, class-found count (low, high))
 
 -- eight figures in each column
 pub eight : (words : List ℕ) → (length (tableIn words .residents) ≡ 8) × (length (tableIn words .modified) ≡ 8)

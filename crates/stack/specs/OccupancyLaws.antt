@@ -112,18 +112,27 @@ no-class count = ⊎-elim
     (λ h. index-none (shown true count) (none-before count 65535 1 classes tt h))
     (λ h. index-none (shown true count) (none-past count 65535 1 classes tt h))
 
-index-inside : (ys : List ℕ) → total ys ≡ 1 → indexOf 1 ys < length ys
+index-found : (ys : List ℕ) → total ys ≡ 1 → getD ys (indexOf 1 ys) 0 ≡ 1
 unfolding total indexOf
-index-inside [] e = absurd (omega arith)
-index-inside (y ∷ ys) e = go (ℕ-discrete y 1) (index-inside ys)
+index-found [] e = absurd (omega arith)
+index-found (y ∷ ys) e = go (ℕ-discrete y 1) (index-found ys)
   where
-    go : Dec (y ≡ 1) → (total ys ≡ 1 → indexOf 1 ys < length ys) → (if eqb y 1 then 0 else suc (indexOf 1 ys)) < suc (length ys)
-    go (yes one) later = rw (eq-eqb y 1 one) (omega arith)
-    go (no other) later = rw (ne-eqb y 1 other) (omega (arith, later (omega arith)))
+    go : Dec (y ≡ 1) → (total ys ≡ 1 → getD ys (indexOf 1 ys) 0 ≡ 1) → getD (y ∷ ys) (if eqb y 1 then 0 else suc (indexOf 1 ys)) 0 ≡ 1
+    go (yes one) later = rw (eq-eqb y 1 one) one
+    go (no other) later = rw (ne-eqb y 1 other) (later (omega arith))
+
+pub class-found : (count : ℕ) → Legal count → getD (shown true count) (classOf count) 0 ≡ 1
+unfolding classOf
+class-found count legal = index-found (shown true count) (one-class count (legal .0) (legal .1))
+
+-- what stands past the end is 0
+inside : (ys : List ℕ) (i : ℕ) → getD ys i 0 ≡ 1 → i < length ys
+inside [] i e = absurd (omega arith)
+inside (y ∷ ys) zero e = omega arith
+inside (y ∷ ys) (suc i) e = omega (arith, inside ys i e)
 
 pub class-below : (count : ℕ) → Legal count → classOf count < length classes
-unfolding classOf
-class-below count legal = index-inside (shown true count) (one-class count (legal .0) (legal .1))
+class-below count legal = inside (shown true count) (classOf count) (class-found count legal)
 
 -- a count from `least` to `greatest`, where these are the class at a place
 pub class-at : (count i least greatest : ℕ) → getD (shown true count) i 0 ≡ bit (within least greatest count)

@@ -56,7 +56,8 @@ returns c =
     let l = c .before .loop in
     let figures = c .before .before .args .figures .now in
     let whole : l .i ≡ length figures = omega (arith, l .inv .1, c .loop-test .left) in
-    l .inv .0 ∙ ap (λ n. over (take n figures) (c .before .before .args .out .now)) whole ∙ ap (λ f. over f (c .before .before .args .out .now)) (take-length figures)
+    let out = c .before .before .args .out .now in
+    l .inv .0 ∙ ap (λ n. over (take n figures) out) whole ∙ ap (λ f. over f out) (take-length figures)
 
 pub put-figures-spec : {M : Type 1} → statement M
 put-figures-spec =

@@ -52,7 +52,8 @@ loop-again c =
     let n = i .before .before .before .residents in
     let s = i .before .before .before .before .before in
     let more = c .and-resident .ensures _ (l .inv .0 .shows) in
-    (walk-goes-on _ (s .pre) _ _ _ _ (l .inv .0) (rw (← n .ensures) (i .loop-test .taken)) _ _ _ more (k .next .ensures), omega (arith, i .loop-test .taken))
+    let left = i .loop-test .taken in
+    (walk-goes-on _ (s .pre) _ _ _ _ (l .inv .0) (rw (← n .ensures) left) _ _ _ more (k .next .ensures), omega (arith, left))
 
 returns : tie.Need-returns Inv-loop μ-loop
 returns c =
