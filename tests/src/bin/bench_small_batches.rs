@@ -1,11 +1,11 @@
 //! What one batch costs, by its length: microseconds of the batch, nanoseconds of a word, the share of the check that
-//! every batch begins with, which is what a batch without words takes.
+//! every batch begins with, which is what a batch without words takes. Then an occupancy by count class beside a check.
 //! Run with `cargo run --release --bin bench_small_batches`.
 use cache_tests::reference::directory::{header, value, word};
 use cache_tests::reference::rng::Rng;
 use cache_tests::reference::settings::{directory_length, named, Profile};
 use cache_tests::reference::stack::work;
-use cache_tests::{batch, fresh};
+use cache_tests::{batch, fresh, sound, table};
 use std::hint::black_box;
 use std::time::Instant;
 
@@ -83,16 +83,38 @@ fn row(cache: &mut Cache, n: u32, trace: &[u32], length: usize) {
     println!("{n:>6} {length:>6} {of_batch:>10.2} {of_word:>10.1} {of_check:>10.2} {share:>6.0} %");
 }
 
+/// Microseconds of one of these calls.
+fn best(calls: usize, call: impl Fn()) -> f64 {
+    let round = |_| {
+        let start = Instant::now();
+        (0..calls).for_each(|_| call());
+        start.elapsed().as_secs_f64() * 1e6 / calls as f64
+    };
+    (0..ROUNDS).map(round).fold(f64::MAX, f64::min)
+}
+
+/// One check and one walk along the residents, beside the check alone.
+fn occupancy_row(dir: &[u32], n: u32) {
+    let calls = (ENTRIES / n as usize).min(LONGEST);
+    let of_check = best(calls, || assert!(black_box(sound(black_box(dir)))));
+    let of_table = best(calls, || assert_eq!(black_box(table(black_box(dir))).0, 0));
+    println!("{n:>6} {of_table:>14.2} {of_check:>10.2} {:>8.2}", of_table / of_check);
+}
+
 fn main() {
     let mut rng = Rng::announced("bench_small_batches", 44);
     println!("UNIX settings, B = {B}, M = {STORE_FACTOR} N, a full cache, skewed blocks, a quarter writes;");
     println!("best of {ROUNDS} rounds; the share is that of the check in the batch");
     println!("{:>6} {:>6} {:>10} {:>10} {:>10} {:>8}", "N", "words", "batch, us", "word, ns", "check, us", "share");
+    let mut full = vec![];
     for n in SIZES {
         let trace = trace(&mut rng, STORE_FACTOR * n);
         let mut cache = Cache::full(n, &trace);
         for length in LENGTHS {
             row(&mut cache, n, &trace, length);
         }
+        full.push(cache.dir);
     }
+    println!("{:>6} {:>14} {:>10} {:>8}", "N", "occupancy, us", "check, us", "ratio");
+    full.iter().zip(SIZES).for_each(|(dir, n)| occupancy_row(dir, n));
 }
