@@ -27,8 +27,8 @@ consecutive from [] to = eqb from (suc to)
 consecutive from (class ∷ later) to = eqb (class .0) from && leb from (class .1) && consecutive (suc (class .1)) later to
 
 -- how many classes have a count
-abbrev having : ℕ → List (ℕ × ℕ) → ℕ
-having count l = sum (λ class. bit (inClass count class)) l
+abbrev holders : ℕ → List (ℕ × ℕ) → ℕ
+holders count l = sum (λ class. bit (inClass count class)) l
 
 module _ (count to : ℕ) where
   record Cut (from : ℕ) (class : ℕ × ℕ) (later : List (ℕ × ℕ)) : Type 0 where
@@ -48,7 +48,7 @@ module _ (count to : ℕ) where
   ends from [] t = let e : from ≡ suc to = eqb-yes t in omega arith
   ends from (class ∷ later) t = let c = cut from class later t in omega (arith, c .wide, ends (suc (class .1)) later (c .rest))
 
-  none-before : (from : ℕ) (l : List (ℕ × ℕ)) → T (consecutive from l to) → count < from → having count l ≡ 0
+  none-before : (from : ℕ) (l : List (ℕ × ℕ)) → T (consecutive from l to) → count < from → holders count l ≡ 0
   unfolding total
   none-before from [] t h = refl
   none-before from (class ∷ later) t h =
@@ -56,7 +56,7 @@ module _ (count to : ℕ) where
       let low : count < class .0 = omega (arith, c .least) in
       rw (lt-leb (class .0) count low) (omega (arith, none-before (suc (class .1)) later (c .rest) (omega (arith, c .wide))))
 
-  one-of : (from : ℕ) (l : List (ℕ × ℕ)) → T (consecutive from l to) → from ≤ count → count ≤ to → having count l ≡ 1
+  one-of : (from : ℕ) (l : List (ℕ × ℕ)) → T (consecutive from l to) → from ≤ count → count ≤ to → holders count l ≡ 1
   unfolding total consecutive
   one-of from [] t h h′ = let e : from ≡ suc to = eqb-yes t in absurd (omega arith)
   one-of from (class ∷ later) t h h′ =
@@ -68,7 +68,7 @@ module _ (count to : ℕ) where
       (λ t. let past : class .1 < count = leb-no t in
       rw (le-leb (class .0) count low, lt-leb count (class .1) past) (omega (arith, one-of (suc (class .1)) later (c .rest) past h′)))
 
-  none-past : (from : ℕ) (l : List (ℕ × ℕ)) → T (consecutive from l to) → to < count → having count l ≡ 0
+  none-past : (from : ℕ) (l : List (ℕ × ℕ)) → T (consecutive from l to) → to < count → holders count l ≡ 0
   unfolding total
   none-past from [] t h = refl
   none-past from (class ∷ later) t h =
@@ -77,7 +77,7 @@ module _ (count to : ℕ) where
       let low : class .0 ≤ count = omega (arith, c .least, c .wide) in
       rw (le-leb (class .0) count low, lt-leb count (class .1) high) (omega (arith, none-past (suc (class .1)) later (c .rest) h))
 
-pub one-class : (count : ℕ) → 1 ≤ count → count ≤ 65535 → having count classes ≡ 1
+pub one-class : (count : ℕ) → 1 ≤ count → count ≤ 65535 → holders count classes ≡ 1
 unfolding consecutive
 one-class count h h′ = one-of count 65535 1 classes tt h h′
 
