@@ -123,6 +123,9 @@ fn count_class_by_a_match_with_ranges() {
     for range in ["3..=4", "17..=64", "65..=1000", "1001..="] {
         assert_eq!(occupancy.matches(range).count(), 1, "{range}");
     }
+    // the check is the only condition, and there is one walk along the stack
+    assert_eq!((occupancy.matches("if ").count(), occupancy.matches("while ").count()), (1, 1));
+    assert_eq!(occupancy.matches("directory::next(").count(), 1);
 }
 fn uncommented(line: &str) -> String {
     line.split("//").next().unwrap().trim_end().to_string()
@@ -194,8 +197,7 @@ fn quoted(text: &str) -> Vec<&str> {
 }
 
 /// Each public function of the C interface, the directory, the settings, FNV-1a, the numbers and the occupancy has two
-/// wrong programs:
-/// docs/PROOFS.md names them, a group of its own for each function, and they are there.
+/// wrong programs of its own: docs/PROOFS.md names them, a group for each function, and they are there.
 #[test]
 fn every_public_function_has_two_wrong_programs() {
     let proofs = fs::read_to_string(root().join("docs/PROOFS.md")).unwrap();

@@ -6,8 +6,9 @@ const B: u32 = 64;
 const M: u32 = 8_192;
 const BATCH: usize = 1_024;
 const BATCHES_AN_HOUR: usize = 40;
-/// Timetables stand in the first blocks, flights from this block on, and bags from the next.
+/// Timetables stand in the blocks below this one, flights from it on.
 const FLIGHTS: u32 = 16;
+/// Bags from this block on.
 const BAGS: u32 = 1_016;
 /// So many flights, and so many bags, are in use at a time.
 const IN_USE: u32 = 150;

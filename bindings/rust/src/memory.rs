@@ -143,7 +143,7 @@ impl Memory<'_> {
     }
 }
 
-/// The memory of a cache, lent to be read only: for looks, and for saving.
+/// The memory of a cache, lent to be read only: for looks, totals and occupancy, and for saving.
 #[derive(Clone, Copy, PartialEq, Eq)]
 pub struct View<'a> {
     /// The directory.

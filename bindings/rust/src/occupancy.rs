@@ -58,7 +58,7 @@ impl Occupancy {
         }
     }
 
-    /// The class of a count; none where no resident can have that count, which is from 1 to 65,535.
+    /// The class of a count, which is from 1 to 65,535; none for other numbers.
     pub fn class_of(&self, count: u32) -> Option<&CountClass> {
         self.classes.iter().find(|class| class.counts.contains(&count))
     }

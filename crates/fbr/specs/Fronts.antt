@@ -1,5 +1,5 @@
--- What the calls with an `out` leave there (SCOPE, "The library's own calls"): what they give stands at its front and the rest stays, or
--- nothing is written where it is longer than out. Assumes nothing.
+-- What the calls with an `out` leave there (SCOPE, "Occupancy by count class", "The library's own calls"): what they give stands at its front
+-- and the rest stays, or nothing is written where it is longer than out. Assumes nothing.
 use Prim.Native.Nat.{ℕ}
 use mathlib.Core.List.{List}
 use lib.ListN.{length}

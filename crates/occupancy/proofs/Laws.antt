@@ -16,7 +16,7 @@ use Rattle.layout.specs.Sound.{order, sound, residentAt, residentsIn, view}
 use Rattle.layout.specs.SoundLaws.{sound-legal, sound-residents, sound-kept}
 use Rattle.promises.specs.DirectoryPromises.{entryAt, NextOf}
 use Rattle.promises.specs.Occupancy.{noFigures}
-use Rattle.occupancy.specs.Tallies.{Shows, Room, Walked}
+use Rattle.occupancy.specs.Walk.{Shows, Room, Walked}
 
 -- ---- one resident more
 

@@ -7,7 +7,7 @@ ghost use Rattle.stack.specs.Recency.{Resident};
 ghost use Rattle.stack.specs.Occupancy.{classOf, table};
 ghost use Rattle.layout.specs.Sound.{sound, residentAt, residentsIn};
 ghost use Rattle.promises.specs.Occupancy.{occupancyNumber, tableIn};
-ghost use Rattle.occupancy.specs.Tallies.{Shows, Room};
+ghost use Rattle.occupancy.specs.Walk.{Shows, Room};
 
 // The numbers of the call.
 const ACCEPTED: u32 = 0;
@@ -24,7 +24,7 @@ pub struct Table {
     pub modified: [u32; CLASSES],
 }
 
-// The class of a count, by its place among the eight.
+// The class of a count, by its place among the eight; their number for what is no count.
 fn class_of(count: u32) -> usize
     ensures { λ r. ⌜ r ≡ classOf count ⌝ }
 {

@@ -5,12 +5,12 @@ use mathlib.Core.Path.{_≡_}
 use mathlib.Core.List.{List, [], _∷_, map}
 use lib.ListN.{getD}
 use lib.Dec.{T}
-use Rattle.basics.specs.Basics.{if_then_else_, bit, total}
+use Rattle.basics.specs.Basics.{if_then_else_, total}
 use Rattle.basics.specs.Lists.{counting}
 use Rattle.words.specs.Words.{val}
 use Rattle.settings.specs.declared.Settings.{Settings}
 use Rattle.stack.specs.Stack.{Plain, marks}
-use Rattle.stack.specs.Occupancy.{classes, inClass, classOf, Table, table}
+use Rattle.stack.specs.Occupancy.{having, classOf, Table, table}
 use Rattle.layout.specs.Addresses.{RESIDENTS}
 use Rattle.layout.specs.Sound.{settingsIn, sound, residentAt, residentsIn}
 use Rattle.promises.specs.Promises.{Fresh, Slices}
@@ -32,10 +32,6 @@ unfolding sound
 tableIn words = let shown = table (residentsIn words) in if sound words then shown else noFigures
 
 -- ---- every count from 1 to 65,535 has exactly one class
-
--- 1 for each class that has the count, 0 for the others
-abbrev pub having : ℕ → List ℕ
-having count = map (λ class. bit (inClass count class)) classes
 
 -- and it is the one at the place read off
 abbrev pub OneClass : Type 0

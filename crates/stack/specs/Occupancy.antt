@@ -15,10 +15,14 @@ classes = (1, 1) ∷ (2, 2) ∷ (3, 4) ∷ (5, 8) ∷ (9, 16) ∷ (17, 64) ∷ (
 abbrev pub inClass : ℕ → ℕ × ℕ → Bool
 inClass count class = within (class .0) (class .1) count
 
+-- 1 for each class that has a count, 0 for the others
+abbrev pub having : ℕ → List ℕ
+having count = map (λ class. bit (inClass count class)) classes
+
 -- the class of a count, by its place among them, from 0 on (8 for a number that is no count)
 unfoldable pub classOf : ℕ → ℕ
 unfolding indexOf
-classOf count = indexOf 1 (map (λ class. bit (inClass count class)) classes)
+classOf count = indexOf 1 (having count)
 
 -- ---- the table
 

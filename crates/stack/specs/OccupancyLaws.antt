@@ -17,7 +17,7 @@ use Rattle.basics.specs.TotalLaws.{sum, sum-join, sum-same, sum-ones, sum-map, 
 use Rattle.stack.specs.Recency.{Resident, hold}
 use Rattle.stack.specs.PlaceLaws.{Legal}
 use Rattle.stack.specs.Stack.{marks}
-use Rattle.stack.specs.Occupancy.{classes, inClass, classOf, tally, column, Table, table}
+use Rattle.stack.specs.Occupancy.{classes, inClass, having, classOf, tally, column, Table, table}
 
 -- ---- exactly one class
 
@@ -26,9 +26,9 @@ consecutive : ℕ → List (ℕ × ℕ) → ℕ → Bool
 consecutive from [] to = eqb from (suc to)
 consecutive from (class ∷ later) to = eqb (class .0) from && leb from (class .1) && consecutive (suc (class .1)) later to
 
--- how many classes have a count
-abbrev holders : ℕ → List (ℕ × ℕ) → ℕ
-holders count l = sum (λ class. bit (inClass count class)) l
+-- how many of the classes have a count
+abbrev among : ℕ → List (ℕ × ℕ) → ℕ
+among count l = sum (λ class. bit (inClass count class)) l
 
 module _ (count to : ℕ) where
   record Cut (from : ℕ) (class : ℕ × ℕ) (later : List (ℕ × ℕ)) : Type 0 where
@@ -48,7 +48,7 @@ module _ (count to : ℕ) where
   ends from [] t = let e : from ≡ suc to = eqb-yes t in omega arith
   ends from (class ∷ later) t = let c = cut from class later t in omega (arith, c .wide, ends (suc (class .1)) later (c .rest))
 
-  none-before : (from : ℕ) (l : List (ℕ × ℕ)) → T (consecutive from l to) → count < from → holders count l ≡ 0
+  none-before : (from : ℕ) (l : List (ℕ × ℕ)) → T (consecutive from l to) → count < from → among count l ≡ 0
   unfolding total
   none-before from [] t h = refl
   none-before from (class ∷ later) t h =
@@ -56,7 +56,7 @@ module _ (count to : ℕ) where
       let low : count < class .0 = omega (arith, c .least) in
       rw (lt-leb (class .0) count low) (omega (arith, none-before (suc (class .1)) later (c .rest) (omega (arith, c .wide))))
 
-  one-of : (from : ℕ) (l : List (ℕ × ℕ)) → T (consecutive from l to) → from ≤ count → count ≤ to → holders count l ≡ 1
+  one-of : (from : ℕ) (l : List (ℕ × ℕ)) → T (consecutive from l to) → from ≤ count → count ≤ to → among count l ≡ 1
   unfolding total consecutive
   one-of from [] t h h′ = let e : from ≡ suc to = eqb-yes t in absurd (omega arith)
   one-of from (class ∷ later) t h h′ =
@@ -68,7 +68,7 @@ module _ (count to : ℕ) where
       (λ t. let past : class .1 < count = leb-no t in
       rw (le-leb (class .0) count low, lt-leb count (class .1) past) (omega (arith, one-of (suc (class .1)) later (c .rest) past h′)))
 
-  none-past : (from : ℕ) (l : List (ℕ × ℕ)) → T (consecutive from l to) → to < count → holders count l ≡ 0
+  none-past : (from : ℕ) (l : List (ℕ × ℕ)) → T (consecutive from l to) → to < count → among count l ≡ 0
   unfolding total
   none-past from [] t h = refl
   none-past from (class ∷ later) t h =
@@ -77,15 +77,11 @@ module _ (count to : ℕ) where
       let low : class .0 ≤ count = omega (arith, c .least, c .wide) in
       rw (le-leb (class .0) count low, lt-leb count (class .1) high) (omega (arith, none-past (suc (class .1)) later (c .rest) h))
 
-pub one-class : (count : ℕ) → 1 ≤ count → count ≤ 65535 → holders count classes ≡ 1
+pub one-class : (count : ℕ) → 1 ≤ count → count ≤ 65535 → total (having count) ≡ 1
 unfolding consecutive
 one-class count h h′ = one-of count 65535 1 classes tt h h′
 
 -- ---- the class of a count, by its place
-
--- what a count shows in a column: 1 in its class, or nothing where its resident fails a test
-abbrev shown : Bool → ℕ → List ℕ
-shown passes count = map (λ class. bit (passes && inClass count class)) classes
 
 -- where none is 1
 index-none : (ys : List ℕ) → total ys ≡ 0 → indexOf 1 ys ≡ length ys
@@ -109,8 +105,8 @@ index-at (y ∷ ys) (suc i) e h = let z : y ≡ 0 = omega (arith, member-most ys
 pub no-class : (count : ℕ) → (count < 1) ⊎ (65535 < count) → classOf count ≡ length classes
 unfolding consecutive classOf
 no-class count = ⊎-elim
-    (λ h. index-none (shown true count) (none-before count 65535 1 classes tt h))
-    (λ h. index-none (shown true count) (none-past count 65535 1 classes tt h))
+    (λ h. index-none (having count) (none-before count 65535 1 classes tt h))
+    (λ h. index-none (having count) (none-past count 65535 1 classes tt h))
 
 index-found : (ys : List ℕ) → total ys ≡ 1 → getD ys (indexOf 1 ys) 0 ≡ 1
 unfolding total indexOf
@@ -121,9 +117,9 @@ index-found (y ∷ ys) e = go (ℕ-discrete y 1) (index-found ys)
     go (yes one) later = rw (eq-eqb y 1 one) one
     go (no other) later = rw (ne-eqb y 1 other) (later (omega arith))
 
-pub class-found : (count : ℕ) → Legal count → getD (shown true count) (classOf count) 0 ≡ 1
+pub class-found : (count : ℕ) → Legal count → getD (having count) (classOf count) 0 ≡ 1
 unfolding classOf
-class-found count legal = index-found (shown true count) (one-class count (legal .0) (legal .1))
+class-found count legal = index-found (having count) (one-class count (legal .0) (legal .1))
 
 -- what stands past the end is 0
 inside : (ys : List ℕ) (i : ℕ) → getD ys i 0 ≡ 1 → i < length ys
@@ -132,15 +128,15 @@ inside (y ∷ ys) zero e = omega arith
 inside (y ∷ ys) (suc i) e = omega (arith, inside ys i e)
 
 pub class-below : (count : ℕ) → Legal count → classOf count < length classes
-class-below count legal = inside (shown true count) (classOf count) (class-found count legal)
+class-below count legal = inside (having count) (classOf count) (class-found count legal)
 
 -- a count from `least` to `greatest`, where these are the class at a place
-pub class-at : (count i least greatest : ℕ) → getD (shown true count) i 0 ≡ bit (within least greatest count)
+pub class-at : (count i least greatest : ℕ) → getD (having count) i 0 ≡ bit (within least greatest count)
     → least ≤ count → count ≤ greatest → 1 ≤ least → greatest ≤ 65535 → classOf count ≡ i
 unfolding classOf
 class-at count i least greatest e low high h h′ =
     let one : bit (within least greatest count) ≡ 1 = rw (le-leb least count low, le-leb count greatest high) in
-    index-at (shown true count) i (one-class count (omega arith) (omega arith)) (e ∙ one)
+    index-at (having count) i (one-class count (omega arith) (omega arith)) (e ∙ one)
 
 -- ---- one resident more
 
@@ -181,6 +177,10 @@ module _ {A K : Type 0} (f : K → A → ℕ) (l : List A) (x : A) where
   unfolding total
   sums-joined [] = refl
   sums-joined (k ∷ ks) = ap₂ _∷_ (omega (arith, sum-join (f k) l (x ∷ []))) (sums-joined ks)
+
+-- what a count shows in a column: 1 in its class, or nothing where its resident fails a test
+abbrev shown : Bool → ℕ → List ℕ
+shown passes count = map (λ class. bit (passes && inClass count class)) classes
 
 -- a resident more: 1 more in its class where it passes the test
 pub column-more : {A : Type 0} (test : Resident A → Bool) (l : List (Resident A)) (x : Resident A) → Legal (x .count)

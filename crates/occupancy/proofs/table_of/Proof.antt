@@ -2,7 +2,7 @@ use Prim.Native.Nat.{_-_, _≤_}
 use native.Mathlib.Omega.{arith}
 use mathlib.Core.Path.{refl}
 use borrow.Author.Needs.{needs}
-use Rattle.occupancy.specs.Tallies.{Walked}
+use Rattle.occupancy.specs.Walk.{Walked}
 use Rattle.occupancy.proofs.Laws.{walk-begins, room, walk-goes-on, walk-ends}
 use Rattle.occupancy.proofs.table_of.Statement.{statement}
 use Rattle.occupancy.proofs.table_of.Tie as tie
