@@ -1,4 +1,2 @@
 pub mod Tallies
-pub mod Lengths
-pub mod LengthLaws
 pub mod TallyLaws

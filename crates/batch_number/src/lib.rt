@@ -1,11 +1,12 @@
 use settings::Settings;
+use stack::Lengths;
 ghost use mathlib.Core.Path.{_≡_};
 ghost use Prim.Native.Nat.{_+_, _^_, _≤_, _<_};
 ghost use lib.ListN.{length};
 ghost use Rattle.settings.specs.Numbers.{settingsNumber};
-ghost use Rattle.stack.specs.Batch.{work};
+ghost use Rattle.basics.specs.Basics.{first};
+ghost use Rattle.stack.specs.Batch.{work, memoryTests, batchTests};
 ghost use Rattle.batch_number.specs.Tallies.{kindOf, plus, tally};
-ghost use Rattle.batch_number.specs.Lengths.{numberBy};
 
 // The most words of a batch, and the most reads and writes carried out: 2^56 − 1.
 const MOST_WORDS: usize = 1024;
@@ -88,26 +89,34 @@ fn count(s: Settings, work: &[u32]) -> Tally
     t
 }
 
-// The number of a batch, 7 to 11 or 0, by the settings, the reads and writes carried out, the words and the lengths lent.
-pub fn batch_number(
-    s: Settings,
-    references: u64,
-    bytes: usize,
-    store: usize,
-    work: &[u32],
-    incoming: usize,
-    answers: usize,
-    outgoing: usize,
-) -> u32
-    requires { ⌜ (settingsNumber s ≡ 0) × (references ≤ 2 ^ 57) ⌝ }
-    ensures { λ r. ⌜ r ≡ numberBy s references bytes store (now (work .entry)) incoming answers outgoing ⌝ }
+// The number that the lengths of data and store give, 7 or 12, or 0: N blocks of data or more, exactly M blocks of store.
+pub fn memory_number(s: Settings, bytes: usize, store: usize) -> u32
+    requires { ⌜ settingsNumber s ≡ 0 ⌝ }
+    ensures { λ r. ⌜ r ≡ first (memoryTests s bytes store) ⌝ }
 {
     let b = s.b as usize;
-    if bytes < (s.n as usize) * b {
+    let data_bytes = (s.n as usize) * b;
+    if bytes < data_bytes {
         return 7;
     }
-    if store < (s.m as usize) * b {
+    let store_bytes = (s.m as usize) * b;
+    if store < store_bytes {
         return 7;
+    }
+    if store > store_bytes {
+        return 12;
+    }
+    0
+}
+
+// The number of a batch, 7 to 12 or 0, by the settings, the reads and writes carried out, the words and the lengths lent.
+pub fn batch_number(s: Settings, references: u64, work: &[u32], lent: Lengths) -> u32
+    requires { ⌜ (settingsNumber s ≡ 0) × (references ≤ 2 ^ 57) ⌝ }
+    ensures { λ r. ⌜ r ≡ first (batchTests s references (now (work .entry)) lent) ⌝ }
+{
+    let memory = memory_number(s, lent.bytes, lent.store);
+    if memory != 0 {
+        return memory;
     }
     if work.len() > MOST_WORDS {
         return 8;
@@ -116,13 +125,14 @@ pub fn batch_number(
     if t.invalid > 0 {
         return 9;
     }
-    if answers < work.len() {
+    if lent.answers < work.len() {
         return 10;
     }
-    if incoming < (t.writes as usize) * b {
+    let b = s.b as usize;
+    if lent.incoming < (t.writes as usize) * b {
         return 10;
     }
-    if outgoing < (t.reads as usize) * b {
+    if lent.outgoing < (t.reads as usize) * b {
         return 10;
     }
     if references + (work.len() as u64) > MOST_REFERENCES {

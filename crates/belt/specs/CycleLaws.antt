@@ -55,7 +55,7 @@ module _ (s : Settings) (before d words incoming bytes store answers outgoing : 
   abbrev past : List ℕ
   past = drop (s .m * s .b) store
 
-  -- the store lent whole: M blocks of the plain stack's, then what followed them
+  -- the memory lent whole: the plain stack's M blocks, then what lies behind them (nothing, where the call is accepted)
   stored : {k : Plain} → Alike (leaves m c after) k past → after .store ≡ k .store ++ past
   unfolding view
   stored {k} e =

@@ -11,17 +11,18 @@ use lib.ListN.{length, take, getD, set, length-map, length-set}
 use lib.Seq.{length-take-le, take-all}
 use lib.Dec.{T, eqb}
 use mir.Facts.{eqb-yes, eqb-no}
-use Rattle.basics.specs.Basics.{if_then_else_, blockAt, putBlock, total}
+use Rattle.basics.specs.Basics.{blockAt, putBlock, total}
 use Rattle.settings.specs.declared.Settings.{Settings}
 use Rattle.stack.specs.Stack.{Work, read, write, purge, flush, invalid, Answer, flushed, answerWord}
 use Rattle.stack.specs.Batch.{work, isRead, isWrite, isInvalid, howMany, batchNumber}
-use Rattle.stack.specs.BatchLaws.{works-inside}
-use Rattle.layout.specs.Sound.{settingsIn, totalsIn, sound}
+use Rattle.stack.specs.BatchLaws.{allowed, works-inside}
+use Rattle.layout.specs.Sound.{settingsIn, totalsIn}
 use Rattle.promises.specs.Promises.{over, Slices, callOf, numberOf, Batch}
+use Rattle.promises.specs.SliceLaws.{number-zero}
 use Rattle.promises.specs.Demand3.{Memory}
 use Rattle.cache_steps.specs.Carried.{settingsOf, memory, Ready, Carried}
 use Rattle.cache_steps.specs.Runs.{Chain, end, snoc-word, all-carried, chain-ready, chain-answers}
-use Rattle.cache_steps.specs.BatchFacts.{allowed, valid-at, incoming-at, outgoing-at, one-more}
+use Rattle.cache_steps.specs.BatchFacts.{valid-at, incoming-at, outgoing-at, one-more}
 use Rattle.cache_steps.specs.WorkLaws.{work-read, work-write, work-purge, work-flush}
 use Rattle.cache_steps.specs.GivenLaws.{carried-gives, chain-gives}
 use Rattle.cache_steps.specs.TotalsLaws.{chain-totals}
@@ -305,21 +306,13 @@ module _ (words incoming : List ℕ) (before : Slices) (n : ℕ) (is : n ≡ num
   pub declined-batch : n ≢ 0 → Batch words incoming before n before
   declined-batch refused = record { returned = is; accepted = λ e. absurd (refused e); declined = λ e. refl }
 
-  -- number 0: the directory is sound, and none of 7 to 11
-  started : n ≡ 0 → T (sound (before .directory)) × (batchNumber (settingsIn (before .directory)) (totalsIn (before .directory)) (callOf words incoming before) ≡ 0)
-  unfolding numberOf
-  started zero = go (sound (before .directory)) (sym is ∙ zero)
-    where
-      go : (x : Bool) → (if x then batchNumber (settingsIn (before .directory)) (totalsIn (before .directory)) (callOf words incoming before) else 6) ≡ 0
-          → T x × (batchNumber (settingsIn (before .directory)) (totalsIn (before .directory)) (callOf words incoming before) ≡ 0)
-      go true e = (tt, e)
-      go false e = absurd (omega arith)
-
   pub run-ready : n ≡ 0 → (s : Settings) → s ≡ settingsIn (before .directory) → RunReady before words incoming s
   run-ready zero s same =
-      let (ok, number) = started zero in
-      let room = allowed (settingsIn (before .directory)) (totalsIn (before .directory)) (callOf words incoming before) number in
-      record { ready = record { is-sound = ok; bytes-long = room .bytes; store-long = room .store }; settings-are = same; number = number }
+      let (ok, number) = number-zero words incoming before (sym is ∙ zero) in
+      let its = settingsIn (before .directory) in
+      let memory = allowed its (totalsIn (before .directory)) (callOf words incoming before) number .memory in
+      let room : its .m * its .b ≤ length (before .store) = omega (arith, memory .store-exact) in
+      record { ready = record { is-sound = ok; bytes-long = memory .bytes-long; store-long = room }; settings-are = same; number = number }
 
   pub accepted-batch : n ≡ 0 → (s : Settings) → s ≡ settingsIn (before .directory) → (after : Slices) → RunDone before words incoming s after → Batch words incoming before 0 after
   accepted-batch zero s same after done =

@@ -95,7 +95,7 @@ fn run(
     }
 }
 
-// A batch: 6 to 11 where it is declined, or 0.
+// A batch: 6 to 12 where it is declined, or 0.
 pub fn batch(
     dir: &mut [u32],
     bytes: &mut [u8],

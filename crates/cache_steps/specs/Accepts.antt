@@ -10,11 +10,12 @@ use Rattle.words.specs.Links.{linksChanged}
 use Rattle.settings.specs.declared.Settings.{Settings}
 use Rattle.stack.specs.Stack.{Work, Answer, answerWord}
 use Rattle.stack.specs.Batch.{work, isInvalid, howMany, batchNumber}
+use Rattle.stack.specs.BatchLaws.{allowed}
 use Rattle.stack.specs.Entries.{entryRun}
 use Rattle.layout.specs.Sound.{settingsIn, totalsIn, view}
 use Rattle.promises.specs.Promises.{over, Slices, behind, callOf, halved, Accepted}
 use Rattle.promises.specs.Demand3.{Memory}
-use Rattle.cache_steps.specs.BatchFacts.{allowed, work-bounded}
+use Rattle.cache_steps.specs.BatchFacts.{work-bounded}
 use Rattle.cache_steps.specs.Carried.{memory, Ready}
 use Rattle.cache_steps.specs.Runs.{Chain, AllCarried, chain-ready, none-carried, all-carried}
 
@@ -65,7 +66,6 @@ module _ (words incoming : List ℕ) (before after : Slices) {answers : List Ans
       outgoing = gave ∙ ap (λ r. over (r .outgoing) (before .outgoing)) (sym ran-is);
       words-past = done .words-past;
       bytes-past = done .bytes-past;
-      store-past = done .store-past;
       empty-batch = empty-batch told gave;
       links = λ w e kind calm. links w e kind (subst (λ r. All (λ a. T (not (halved a))) (r .answers)) ran-is calm);
     },

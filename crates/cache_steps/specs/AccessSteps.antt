@@ -13,13 +13,14 @@ use Rattle.stack.specs.Recency.{Place, found, unused, replacing, counts, asked,
 use Rattle.stack.specs.Stack.{Work, read, write, Answer, replaced, leaving, savedAll, present, answering, accessTotals, access, step}
 use Rattle.stack.specs.Entries.{entryBytes, entryFor, filled, entryStep, Pick}
 use Rattle.stack.specs.EntriesLaws.{Entry, entry-placed}
+use Rattle.stack.specs.ForgetLaws.{length-savedAll}
 use Rattle.layout.specs.Sound.{totalsIn, residentsIn, view}
 use Rattle.layout.specs.SoundLaws.{sound-residents}
 use Rattle.promises.specs.DirectoryPromises.{placeOf, Accessed}
 use Rattle.promises.specs.Demand3.{Memory}
 use Rattle.cache_steps.specs.Carried.{cacheOf, settingsOf, memory, Ready, Carried}
 use Rattle.cache_steps.specs.Carries.{cacheWith, carry}
-use Rattle.cache_steps.specs.MovedLaws.{Stands, leaving-fit, Moved, put-moved, entry-room, saved-all, present-front, present-length}
+use Rattle.cache_steps.specs.MovedLaws.{Stands, leaving-fit, Moved, put-moved, entry-room, saved-front, present-front, present-length}
 use Rattle.cache_steps.specs.Places.{placed-in, place-stands, store-room}
 use Rattle.cache_steps.specs.Told.{storeAfter, bytesRead, told}
 
@@ -59,12 +60,9 @@ module _ (m : Memory) (ready : Ready m) (b : ℕ) (written : Bool) {k e : ℕ} {
     abbrev front : ℕ → List ℕ
     front = entryBytes (s .b) (take (s .n * s .b) (m .bytes))
 
-    -- the store and the block's bytes, and those of the fronts
+    -- the store and the block's bytes
     abbrev store₁ : List ℕ
     store₁ = savedAll whole (s .b) (leaving q) (m .store)
-
-    abbrev first-store : List ℕ
-    first-store = savedAll front (s .b) (leaving q) (take (s .m * s .b) (m .store))
 
     abbrev bytes₁ : List ℕ
     bytes₁ = present whole (s .b) b store₁ q
@@ -72,14 +70,18 @@ module _ (m : Memory) (ready : Ready m) (b : ℕ) (written : Bool) {k e : ℕ} {
     abbrev put : List ℕ
     put = if written then incoming else bytes₁
 
-    in-store : Moved (s .m * s .b) first-store (m .store) store₁
-    in-store = saved-all s (m .bytes) (ready .bytes-long) (leaving q) (leaving-fit s q at-place) (m .store) (ready .store-long)
+    -- the same by the front of data
+    first-store : savedAll front (s .b) (leaving q) (m .store) ≡ store₁
+    first-store = saved-front s (m .bytes) (ready .bytes-long) (leaving q) (leaving-fit s q at-place) (m .store)
+
+    first-bytes : present front (s .b) b (savedAll front (s .b) (leaving q) (m .store)) q ≡ bytes₁
+    first-bytes = ap (λ x. present front (s .b) b x q) first-store ∙ present-front s (m .bytes) (ready .bytes-long) b store₁ q at-place
+
+    store-same : length store₁ ≡ length (m .store)
+    store-same = length-savedAll s (m .bytes) (ready .bytes-long) (leaving q) (leaving-fit s q at-place) (m .store) (ready .store-long)
 
     room-after : s .m * s .b ≤ length store₁
-    room-after = rw (in-store .same) (ready .store-long)
-
-    first-bytes : present front (s .b) b first-store q ≡ bytes₁
-    first-bytes = ap (λ x. present front (s .b) b x q) (sym (in-store .first)) ∙ present-front s (m .bytes) (ready .bytes-long) b inside store₁ room-after q at-place
+    room-after = rw store-same (ready .store-long)
 
     put-length : length put ≡ s .b
     put-length = go written brings
@@ -95,7 +97,7 @@ module _ (m : Memory) (ready : Ready m) (b : ℕ) (written : Bool) {k e : ℕ} {
     abbrev Stepped : Bool → List ℕ → List ℕ → Type 0
     Stepped w put given =
         entryStep (cacheOf m) (accessing w b, e) incoming
-        ≡ record { after = cacheWith s d (putBlock (s .b) (e - 1) put (take (s .n * s .b) (m .bytes))) first-store; answer = answer; given = given }
+        ≡ record { after = cacheWith s d (putBlock (s .b) (e - 1) put (take (s .n * s .b) (m .bytes))) store₁; answer = answer; given = given }
 
     stepped : (w : Bool)
         → settled s (asked b w (entryFor e q) q) ≡ residentsIn d
@@ -106,7 +108,7 @@ module _ (m : Memory) (ready : Ready m) (b : ℕ) (written : Bool) {k e : ℕ} {
     stepped true residents totals answers =
         λ i. record {
           after = record {
-            stack = record { settings = s; residents = residents i; store = first-store; totals = totals i };
+            stack = record { settings = s; residents = residents i; store = first-store i; totals = totals i };
             bytes = putBlock (s .b) (accessed .entry-is i - 1) incoming (take (s .n * s .b) (m .bytes));
           };
           answer = answers i;
@@ -115,7 +117,7 @@ module _ (m : Memory) (ready : Ready m) (b : ℕ) (written : Bool) {k e : ℕ} {
     stepped false residents totals answers =
         λ i. record {
           after = record {
-            stack = record { settings = s; residents = residents i; store = first-store; totals = totals i };
+            stack = record { settings = s; residents = residents i; store = first-store i; totals = totals i };
             bytes = putBlock (s .b) (accessed .entry-is i - 1) (first-bytes i) (take (s .n * s .b) (m .bytes));
           };
           answer = answers i;
@@ -129,7 +131,8 @@ module _ (m : Memory) (ready : Ready m) (b : ℕ) (written : Bool) {k e : ℕ} {
 
     carried-out : k ≤ 20 → Carried m (accessing written b) incoming (memory d (putBlock (s .b) (e - 1) put (m .bytes)) store₁) answer (if written then [] else bytes₁)
     carried-out few =
-        carry m ready d (putBlock (s .b) (e - 1) put (m .bytes)) store₁ (accessed .kept) in-bytes in-store (accessing written b) incoming answer (if written then [] else bytes₁) e (picks written)
+        carry m ready d (putBlock (s .b) (e - 1) put (m .bytes)) store₁ (accessed .kept) in-bytes store-same
+        (accessing written b) incoming answer (if written then [] else bytes₁) e (picks written)
         (stepped written
         (ap (λ x. settled s (asked b written x q)) (accessed .entry-is) ∙ sym (accessed .residents))
         (sym (accessed .totals))

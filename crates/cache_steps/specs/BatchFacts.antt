@@ -1,50 +1,19 @@
 -- What number 0 gives a batch's loop: no word is invalid, and there is room for what the first words take and give.
-use Prim.Native.Nat.{ℕ, zero, suc, _+_, _-_, _*_, _/_, _%_, _^_, _≤_, _<_}
+use Prim.Native.Nat.{ℕ, zero, suc, _+_, _*_, _/_, _%_, _^_, _≤_, _<_}
 use native.Mathlib.Nat.{add-mul, mul-le-mul-right}
 use native.Mathlib.Omega.{arith}
 use mathlib.Core.Path.{_≡_}
-use mathlib.Core.Bool.{Bool, true, false, _&&_, _||_}
+use mathlib.Core.Bool.{Bool, true, false, _&&_}
 use mathlib.Core.List.{List, [], _∷_, map}
 use lib.ListN.{length, take, getD}
 use lib.Dec.{T, ltb, eqb}
-use mir.Facts.{and-yes, or-no, ltb-no, eqb-yes}
+use mir.Facts.{and-yes, eqb-yes}
 use Rattle.basics.specs.Basics.{if_then_else_, total}
-use Rattle.basics.specs.TestLaws.{first-zero}
 use Rattle.settings.specs.declared.Settings.{Settings}
 use Rattle.stack.specs.Stack.{Totals, Work, read, write, purge, flush, invalid}
-use Rattle.stack.specs.Batch.{work, isRead, isWrite, isInvalid, howMany, Call, batchTests, batchNumber}
+use Rattle.stack.specs.Batch.{work, isRead, isWrite, isInvalid, howMany, Call, batchNumber}
+use Rattle.stack.specs.BatchLaws.{allowed}
 use Rattle.cache_steps.specs.Carried.{bounded}
-
--- ---- numbers 7 to 11, failed
-
-pub record Allowed (s : Settings) (t : Totals) (c : Call) : Type 0 where
-  pub bytes : s .n * s .b ≤ c .dataLength
-  pub store : s .m * s .b ≤ c .storeLength
-  pub few : length (c .words) ≤ 1024
-  pub valid : howMany isInvalid (map (work s) (c .words)) ≡ 0
-  pub answers : length (c .words) ≤ c .answersLength
-  pub incoming : howMany isWrite (map (work s) (c .words)) * s .b ≤ length (c .incoming)
-  pub outgoing : howMany isRead (map (work s) (c .words)) * s .b ≤ c .outgoingLength
-  pub totals : t .reads + t .writes + length (c .words) ≤ 2 ^ 56 - 1
-
-pub allowed : (s : Settings) (t : Totals) (c : Call) → batchNumber s t c ≡ 0 → Allowed s t c
-unfolding batchNumber batchTests
-allowed s t c e =
-    let f = first-zero (batchTests s t c) e in
-    let ws = map (work s) (c .words) in
-    let a = or-no (ltb (c .dataLength) (s .n * s .b)) (ltb (c .storeLength) (s .m * s .b)) (f .0) in
-    let b = or-no (ltb (c .answersLength) (length (c .words)) || ltb (length (c .incoming)) (howMany isWrite ws * s .b)) (ltb (c .outgoingLength) (howMany isRead ws * s .b)) (f .1 .1 .1 .0) in
-    let d = or-no (ltb (c .answersLength) (length (c .words))) (ltb (length (c .incoming)) (howMany isWrite ws * s .b)) (b .0) in
-    record {
-      bytes = ltb-no (a .0);
-      store = ltb-no (a .1);
-      few = ltb-no (f .1 .0);
-      valid = let h : howMany isInvalid ws ≤ 0 = ltb-no (f .1 .1 .0) in omega arith;
-      answers = ltb-no (d .0);
-      incoming = ltb-no (d .1);
-      outgoing = ltb-no (b .1);
-      totals = ltb-no (f .1 .1 .1 .1 .0);
-    }
 
 -- ---- the words up to one of them
 

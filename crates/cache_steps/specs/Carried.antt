@@ -24,7 +24,7 @@ settingsOf m = settingsIn (m .directory)
 abbrev pub memory : List ℕ → List ℕ → List ℕ → Memory
 memory directory bytes store = record { directory = directory; bytes = bytes; store = store }
 
--- A memory that a batch may start from: the directory is sound, data and store are long enough.
+-- A memory that a word may start from: the directory is sound, data and store have room for N and M blocks.
 pub record Ready (m : Memory) : Type 0 where
   pub is-sound : T (sound (m .directory))
   pub bytes-long : settingsOf m .n * settingsOf m .b ≤ length (m .bytes)
@@ -47,7 +47,6 @@ pub record Carried (before : Memory) (w : Work) (incoming : List ℕ) (after : M
   pub settings-kept : settingsOf after ≡ settingsOf before
   pub words-past : drop (directoryLength (settingsOf before)) (after .directory) ≡ drop (directoryLength (settingsOf before)) (before .directory)
   pub bytes-past : drop (settingsOf before .n * settingsOf before .b) (after .bytes) ≡ drop (settingsOf before .n * settingsOf before .b) (before .bytes)
-  pub store-past : drop (settingsOf before .m * settingsOf before .b) (after .store) ≡ drop (settingsOf before .m * settingsOf before .b) (before .store)
   pub bytes-same : length (after .bytes) ≡ length (before .bytes)
   pub store-same : length (after .store) ≡ length (before .store)
   pub links-few : T (bounded w) → T (not (halved answer)) → linksChanged (before .directory) (after .directory) ≤ 20

@@ -1,7 +1,7 @@
--- How a word is shown to be carried out: an operation of the directory that kept what it promises, beside data and store whose fronts
--- became those of the machine over entries.
+-- How a word is shown to be carried out: an operation of the directory that kept what it promises, beside data whose front became the data
+-- of the machine over entries, and a store that became its store.
 use Prim.Native.Nat.{ℕ, _*_, _≤_}
-use mathlib.Core.Path.{_≡_, sym, ap, ap₂, _∙_}
+use mathlib.Core.Path.{_≡_, sym, ap, _∙_}
 use mathlib.Core.Bool.{not}
 use mathlib.Core.List.{List}
 use lib.ListN.{length, take}
@@ -17,7 +17,7 @@ use Rattle.promises.specs.Demand3.{Memory}
 use Rattle.cache_steps.specs.Carried.{cacheOf, settingsOf, memory, Ready, bounded, Carried}
 use Rattle.cache_steps.specs.MovedLaws.{Moved}
 
--- the cache with these settings, the residents and totals of a directory, and these fronts of data and store
+-- the cache with these settings, the residents and totals of a directory, this front of data and this store
 abbrev pub cacheWith : Settings → List ℕ → List ℕ → List ℕ → Cache
 cacheWith s directory bytes store =
     record {
@@ -38,13 +38,15 @@ module _ (m : Memory) (ready : Ready m) (directory bytes store : List ℕ) (kept
       }
 
   -- settings that were kept may stand for those after
-  cache-after : cacheWith s directory (take (s .n * s .b) bytes) (take (s .m * s .b) store) ≡ cacheOf (memory directory bytes store)
+  cache-after : cacheWith s directory (take (s .n * s .b) bytes) store ≡ cacheOf (memory directory bytes store)
   unfolding view
-  cache-after = ap (λ (t : Settings). cacheWith t directory (take (t .n * t .b) bytes) (take (t .m * t .b) store)) (sym (kept .settings-kept))
+  cache-after = ap (λ (t : Settings). cacheWith t directory (take (t .n * t .b) bytes) store) (sym (kept .settings-kept))
 
-  module _ {first-bytes first-store : List ℕ} (in-bytes : Moved (s .n * s .b) first-bytes (m .bytes) bytes) (in-store : Moved (s .m * s .b) first-store (m .store) store) where
+  module _ {first-bytes : List ℕ} (in-bytes : Moved (s .n * s .b) first-bytes (m .bytes) bytes)
+      (store-same : length store ≡ length (m .store)) where
     pub carry : (w : Work) (incoming : List ℕ) (answer : Answer) (given : List ℕ) (pick : ℕ) → Pick (cacheOf m) w pick
-        → entryStep (cacheOf m) (w, pick) incoming ≡ record { after = cacheWith (settingsOf m) directory first-bytes first-store; answer = answer; given = given }
+        → entryStep (cacheOf m) (w, pick) incoming
+        ≡ record { after = cacheWith (settingsOf m) directory first-bytes store; answer = answer; given = given }
         → (T (bounded w) → T (not (halved answer)) → linksChanged (m .directory) directory ≤ 20)
         → Carried m w incoming (memory directory bytes store) answer given
     carry w incoming answer given pick picked step-is links =
@@ -53,13 +55,13 @@ module _ (m : Memory) (ready : Ready m) (directory bytes store : List ℕ) (kept
           picked = picked;
           step-is =
               step-is
-              ∙ ap (λ (c : Cache). record { after = c; answer = answer; given = given }) (sym (ap₂ (cacheWith s directory) (in-bytes .first) (in-store .first)) ∙ cache-after);
-          ready = ready-after (in-bytes .same) (in-store .same);
+              ∙ ap (λ (c : Cache). record { after = c; answer = answer; given = given })
+              (sym (ap (λ front. cacheWith s directory front store) (in-bytes .first)) ∙ cache-after);
+          ready = ready-after (in-bytes .same) store-same;
           settings-kept = kept .settings-kept;
           words-past = kept .past-kept;
           bytes-past = in-bytes .past;
-          store-past = in-store .past;
           bytes-same = in-bytes .same;
-          store-same = in-store .same;
+          store-same = store-same;
           links-few = links;
         }

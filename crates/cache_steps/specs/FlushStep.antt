@@ -15,6 +15,7 @@ use Rattle.stack.specs.Recency.{Resident, cleaned}
 use Rattle.stack.specs.Stack.{Totals, flush, flushed, marks, saved, savedAll, flushing, step}
 use Rattle.stack.specs.Entries.{entryBytes, filled, entryStep}
 use Rattle.stack.specs.EntriesLaws.{Fit}
+use Rattle.stack.specs.ForgetLaws.{length-savedAll}
 use Rattle.layout.specs.Sound.{totalsIn, residentsIn, view}
 use Rattle.layout.specs.SoundLaws.{sound-residents}
 use Rattle.promises.specs.DirectoryPromises.{Kept, Cleaned, cleanedAt, oneOut}
@@ -22,7 +23,7 @@ use Rattle.promises.specs.Demand3.{Memory}
 use Rattle.cache_steps.specs.Carried.{settingsOf, memory, Ready, Carried}
 use Rattle.cache_steps.specs.Carries.{ready-after, carry}
 use Rattle.cache_steps.specs.FlushLists.{passed, passed-next, passed-length, passed-clean, passed-cleaned, marks-next, saved-next}
-use Rattle.cache_steps.specs.MovedLaws.{Moved, unmoved, saved-all}
+use Rattle.cache_steps.specs.MovedLaws.{Moved, unmoved, saved-front}
 
 abbrev pub outsMore : Totals → ℕ → Totals
 outsMore t n = record { reads = t .reads; writes = t .writes; ins = t .ins; outs = t .outs + n }
@@ -118,26 +119,29 @@ module _ (start : Memory) (ready : Ready start) where
     pub flush-length : length (residentsIn (m .directory)) ≡ length (residentsIn (start .directory))
     flush-length = ap length (so-far .residents) ∙ passed-length l p
 
-    store-moved : Moved (s .m * s .b) (savedAll (entryBytes (s .b) (take (s .n * s .b) (start .bytes))) (s .b) (take p l) (take (s .m * s .b) (start .store))) (start .store) (m .store)
-    store-moved =
-        let fit : All (Fit s) (take p l) = all-left (Fit s) (take p l) (drop p l) (rw (take-append-drop p l) (sound-residents (start .directory) (ready .is-sound) .fit)) in
-        rw (so-far .store-is) (saved-all s (start .bytes) (ready .bytes-long) (take p l) fit (start .store) (ready .store-long))
+    passed-fit : All (Fit s) (take p l)
+    passed-fit = all-left (Fit s) (take p l) (drop p l) (rw (take-append-drop p l) (sound-residents (start .directory) (ready .is-sound) .fit))
+
+    store-same : length (m .store) ≡ length (start .store)
+    store-same =
+        ap length (so-far .store-is)
+        ∙ length-savedAll s (start .bytes) (ready .bytes-long) (take p l) passed-fit (start .store) (ready .store-long)
 
     bytes-moved : Moved (s .n * s .b) (take (s .n * s .b) (start .bytes)) (start .bytes) (m .bytes)
     bytes-moved = rw (so-far .bytes-are) (unmoved (s .n * s .b) (start .bytes))
 
     pub flush-ready : Ready m
-    flush-ready = ready-after start ready (m .directory) (m .bytes) (m .store) (so-far .kept) (bytes-moved .same) (store-moved .same)
+    flush-ready = ready-after start ready (m .directory) (m .bytes) (m .store) (so-far .kept) (bytes-moved .same) store-same
 
     -- ---- the end
 
     pub flush-carried : length (residentsIn (start .directory)) ≤ p → (incoming : List ℕ) → Carried start flush incoming m (flushed n) []
     unfolding entryStep step flushing filled view
     flush-carried all incoming =
-        carry start ready (m .directory) (m .bytes) (m .store) (so-far .kept) bytes-moved store-moved flush incoming (flushed n) [] 0 tt
+        carry start ready (m .directory) (m .bytes) (m .store) (so-far .kept) bytes-moved store-same flush incoming (flushed n) [] 0 tt
         (λ i. record {
           after = record {
-            stack = record { settings = s; residents = residents i; store = savedAll (entryBytes (s .b) (take (s .n * s .b) (start .bytes))) (s .b) (whole i) (take (s .m * s .b) (start .store)); totals = totals i };
+            stack = record { settings = s; residents = residents i; store = stored i; totals = totals i };
             bytes = take (s .n * s .b) (start .bytes);
           };
           answer = flushed (count i);
@@ -150,6 +154,12 @@ module _ (start : Memory) (ready : Ready start) where
 
         residents : map cleaned l ≡ residentsIn (m .directory)
         residents = sym (so-far .residents ∙ ap₂ (λ a b. map cleaned a ++ b) (take-all p l all) (drop-of-length-le l all) ∙ append-nil (map cleaned l))
+
+        stored : savedAll (entryBytes (s .b) (take (s .n * s .b) (start .bytes))) (s .b) l (start .store) ≡ m .store
+        stored =
+            ap (λ r. savedAll (entryBytes (s .b) (take (s .n * s .b) (start .bytes))) (s .b) r (start .store)) whole
+            ∙ saved-front s (start .bytes) (ready .bytes-long) (take p l) passed-fit (start .store)
+            ∙ sym (so-far .store-is)
 
         count : marks l ≡ n
         count = ap marks whole ∙ sym (so-far .marked)

@@ -13,12 +13,12 @@ use Rattle.stack.specs.Recency.{Resident, Place, lookup}
 use Rattle.stack.specs.Stack.{Stack, Work, read, write, purge, flush, invalid, Answer, leaving, savedAll, access, purging, flushing, step}
 use Rattle.stack.specs.Batch.{isRead, howMany}
 use Rattle.stack.specs.Entries.{entryBytes, entryFor, entryStep}
-use Rattle.stack.specs.ForgetLaws.{InStore}
+use Rattle.stack.specs.ForgetLaws.{InStore, length-savedAll}
 use Rattle.layout.specs.Sound.{residentsIn, view}
 use Rattle.promises.specs.DirectoryPromises.{placeOf}
 use Rattle.promises.specs.Demand3.{Memory}
 use Rattle.cache_steps.specs.Carried.{cacheOf, settingsOf, Ready, Carried}
-use Rattle.cache_steps.specs.MovedLaws.{Stands, leaving-fit, saved-all, present-length}
+use Rattle.cache_steps.specs.MovedLaws.{Stands, leaving-fit, present-length}
 use Rattle.cache_steps.specs.Places.{place-stands}
 use Rattle.cache_steps.specs.Runs.{Chain, end, next}
 
@@ -29,22 +29,17 @@ module _ (m : Memory) (ready : Ready m) (pick : ℕ) (incoming : List ℕ) where
   abbrev bytes : List ℕ
   bytes = take (s .n * s .b) (m .bytes)
 
-  abbrev store : List ℕ
-  store = take (s .m * s .b) (m .store)
-
   bytes-long : s .n * s .b ≤ length bytes
   bytes-long = let h = ready .bytes-long in rw (length-take-le (s .n * s .b) (m .bytes) h) (omega arith)
-
-  store-long : s .m * s .b ≤ length store
-  store-long = let h = ready .store-long in rw (length-take-le (s .m * s .b) (m .store) h) (omega arith)
 
   read-gives : (b : ℕ) → InStore (s .m) (read b) → length (entryStep (cacheOf m) (read b, pick) incoming .given) ≡ s .b
   unfolding entryStep step access view
   read-gives b inside =
       let q = placeOf (m .directory) b in
       let at : Stands s q = place-stands (m .directory) (ready .is-sound) b in
-      let moved = saved-all s bytes bytes-long (leaving q) (leaving-fit s q at) store store-long in
-      present-length s bytes bytes-long b inside (savedAll (entryBytes (s .b) bytes) (s .b) (leaving q) store) (let e = moved .same in let h = store-long in omega arith) q at
+      let same = length-savedAll s bytes bytes-long (leaving q) (leaving-fit s q at) (m .store) (ready .store-long) in
+      let after : List ℕ = savedAll (entryBytes (s .b) bytes) (s .b) (leaving q) (m .store) in
+      present-length s bytes bytes-long b inside after (let h = ready .store-long in omega (arith, same)) q at
 
   purging-gives : (f : ℕ → List ℕ) (keep : Place ℕ → List ℕ → ℕ) (k : Stack ℕ) (b : ℕ) (o : Option (Resident ℕ)) → length (purging f keep k b o .given) ≡ 0
   unfolding purging

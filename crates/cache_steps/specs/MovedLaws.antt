@@ -1,8 +1,7 @@
--- Bytes moved between data and store: of buffers that are longer than N or M blocks, only the fronts matter, and what follows stays.
+-- Bytes moved between data and store: of a data buffer that is longer than N blocks only the front matters, and what follows stays.
 use Prim.Native.Nat.{ℕ, _+_, _-_, _*_, _≤_, _<_}
 use native.Mathlib.Omega.{arith}
 use mathlib.Core.Path.{_≡_, refl, ap, _∙_}
-use mathlib.Core.Bool.{Bool, true, false}
 use mathlib.Core.List.{List, [], _∷_}
 use lib.ListN.{length, take, drop}
 use Rattle.basics.specs.Basics.{All, if_then_else_, putBlock}
@@ -67,39 +66,24 @@ module _ (s : Settings) (bytes : List ℕ) (long : s .n * s .b ≤ length bytes)
 
   -- ---- residents written out
 
-  module _ (x : Resident ℕ) (fit : Fit s x) (store : List ℕ) (room : s .m * s .b ≤ length store) where
-    saved-one : Moved (s .m * s .b) (saved front B x (take (s .m * s .b) store)) store (saved whole B x store)
-    unfolding saved
-    saved-one = go (x .modified)
-      where
-        go : (t : Bool) → Moved (s .m * s .b) (if t then putBlock B (x .block) (front (x .held)) (take (s .m * s .b) store) else take (s .m * s .b) store) store
-            (if t then putBlock B (x .block) (whole (x .held)) store else store)
-        go true = rw (entry-front (x .held) (fit .least) (fit .most)) (put-moved B (x .block) (s .m) store (fit .stored) room (whole (x .held)) (entry-length (x .held) (fit .least) (fit .most)))
-        go false = unmoved (s .m * s .b) store
-
-  pub saved-all : (l : List (Resident ℕ)) → All (Fit s) l → (store : List ℕ) → s .m * s .b ≤ length store
-      → Moved (s .m * s .b) (savedAll (entryBytes (s .b) (take (s .n * s .b) bytes)) (s .b) l (take (s .m * s .b) store)) store (savedAll (entryBytes (s .b) bytes) (s .b) l store)
-  unfolding savedAll
-  saved-all [] a store room = unmoved (s .m * s .b) store
-  saved-all (x ∷ l) a store room =
-      let one = saved-one x (a .0) store room in
-      let rest = saved-all l (a .1) (saved whole B x store) (let e = one .same in omega arith) in
-      record {
-        first = rest .first ∙ ap (savedAll front B l) (one .first);
-        past = rest .past ∙ one .past;
-        same = rest .same ∙ one .same;
-      }
+  pub saved-front : (l : List (Resident ℕ)) → All (Fit s) l → (store : List ℕ)
+      → savedAll (entryBytes (s .b) (take (s .n * s .b) bytes)) (s .b) l store ≡ savedAll (entryBytes (s .b) bytes) (s .b) l store
+  unfolding savedAll saved
+  saved-front [] a store = refl
+  saved-front (x ∷ l) a store =
+      let same = entry-front (x .held) (a .0 .least) (a .0 .most) in
+      saved-front l (a .1) _ ∙ ap (λ by. savedAll whole B l (if x .modified then putBlock B (x .block) by store else store)) same
 
   -- ---- the bytes of a block: its resident's, or the store's
 
-  module _ (b : ℕ) (inside : b < s .m) (store : List ℕ) (room : s .m * s .b ≤ length store) where
-    pub present-front : (q : Place ℕ) → Stands s q
-        → present (entryBytes (s .b) (take (s .n * s .b) bytes)) (s .b) b (take (s .m * s .b) store) q ≡ present (entryBytes (s .b) bytes) (s .b) b store q
-    unfolding present
-    present-front (found x l) t = entry-front (x .held) (t .least) (t .most)
-    present-front (unused l) t = block-front B b (s .m) store inside room
-    present-front (replacing v l) t = block-front B b (s .m) store inside room
+  pub present-front : (b : ℕ) (store : List ℕ) (q : Place ℕ) → Stands s q
+      → present (entryBytes (s .b) (take (s .n * s .b) bytes)) (s .b) b store q ≡ present (entryBytes (s .b) bytes) (s .b) b store q
+  unfolding present
+  present-front b store (found x l) t = entry-front (x .held) (t .least) (t .most)
+  present-front b store (unused l) t = refl
+  present-front b store (replacing v l) t = refl
 
+  module _ (b : ℕ) (inside : b < s .m) (store : List ℕ) (room : s .m * s .b ≤ length store) where
     pub present-length : (q : Place ℕ) → Stands s q → length (present (entryBytes (s .b) bytes) (s .b) b store q) ≡ s .b
     unfolding present
     present-length (found x l) t = entry-length (x .held) (t .least) (t .most)

@@ -37,16 +37,17 @@ module _ (m : Memory) (ready : Ready m) (b : ℕ) (incoming : List ℕ) where
       → Carried m (purge b) incoming (memory d (m .bytes) (m .store)) (purged modified) []
   unfolding purging view
   purge-carried {modified = modified} {d = d} {x = x} gone at mark few =
-      carry m ready d (m .bytes) (m .store) (gone .kept) (unmoved (s .n * s .b) (m .bytes)) (unmoved (s .m * s .b) (m .store)) (purge b) incoming (purged modified) [] 0 tt
+      carry m ready d (m .bytes) (m .store) (gone .kept) (unmoved (s .n * s .b) (m .bytes)) refl (purge b) incoming (purged modified) [] 0 tt
       (looked-up at ∙ leaves) (λ bound calm. let h = gone .links-few in omega arith)
     where
-      leaves : purgedWith (some x) ≡ record { after = cacheWith s d (take (s .n * s .b) (m .bytes)) (take (s .m * s .b) (m .store)); answer = purged modified; given = [] }
+      leaves : purgedWith (some x)
+          ≡ record { after = cacheWith s d (take (s .n * s .b) (m .bytes)) (m .store); answer = purged modified; given = [] }
       leaves =
           let residents = sym (gone .residents) in
           let totals = sym (gone .totals) in
           λ i. record {
             after = record {
-              stack = record { settings = s; residents = residents i; store = take (s .m * s .b) (m .store); totals = totals i };
+              stack = record { settings = s; residents = residents i; store = m .store; totals = totals i };
               bytes = take (s .n * s .b) (m .bytes);
             };
             answer = purged (mark i);
@@ -57,5 +58,5 @@ module _ (m : Memory) (ready : Ready m) (b : ℕ) (incoming : List ℕ) where
   unfolding purging view
   absent-carried at =
       carry m ready (m .directory) (m .bytes) (m .store) (record { sound-after = ready .is-sound; settings-kept = refl; past-kept = refl })
-      (unmoved (s .n * s .b) (m .bytes)) (unmoved (s .m * s .b) (m .store)) (purge b) incoming absent [] 0 tt
+      (unmoved (s .n * s .b) (m .bytes)) refl (purge b) incoming absent [] 0 tt
       (looked-up at) (λ bound calm. rw (changed-same (m .directory)) (omega arith))

@@ -62,7 +62,6 @@ pub record AllCarried (B : ℕ) (before : Memory) (ws : List Work) (incoming : L
   pub settings-kept : settingsOf after ≡ settingsOf before
   pub words-past : drop (directoryLength (settingsOf before)) (after .directory) ≡ drop (directoryLength (settingsOf before)) (before .directory)
   pub bytes-past : drop (settingsOf before .n * settingsOf before .b) (after .bytes) ≡ drop (settingsOf before .n * settingsOf before .b) (before .bytes)
-  pub store-past : drop (settingsOf before .m * settingsOf before .b) (after .store) ≡ drop (settingsOf before .m * settingsOf before .b) (before .store)
   pub bytes-same : length (after .bytes) ≡ length (before .bytes)
   pub store-same : length (after .store) ≡ length (before .store)
   -- one word alone
@@ -110,7 +109,6 @@ module _ (B : ℕ) (incoming : List ℕ) {m m₁ m₂ : Memory} {w : Work} {ws :
         settings-kept = rest .settings-kept ∙ c .settings-kept;
         words-past = rw (c .settings-kept) at (rest .words-past) ∙ c .words-past;
         bytes-past = rw (c .settings-kept) at (rest .bytes-past) ∙ c .bytes-past;
-        store-past = rw (c .settings-kept) at (rest .store-past) ∙ c .store-past;
         bytes-same = rest .bytes-same ∙ c .bytes-same;
         store-same = rest .store-same ∙ c .store-same;
         links-few = all-links;
@@ -127,7 +125,6 @@ all-carried end =
       settings-kept = refl;
       words-past = refl;
       bytes-past = refl;
-      store-past = refl;
       bytes-same = refl;
       store-same = refl;
       links-few = λ w e bound calm. let z : _≡_ {A = ℕ} 0 1 = cc in absurd (omega arith);

@@ -100,8 +100,9 @@ module _ (ws : List ℕ) (h : T (sound ws)) where
         few = rw (length-map (order ws) (residentAt ws)) few;
       }
 
-  -- with data and store that are long enough
-  pub sound-proper : (bytes store : List ℕ) → s .n * s .b ≤ length bytes → s .m * s .b ≤ length store → Proper (record { stack = view ws store; bytes = bytes })
+  -- with data that is long enough and a store of M blocks
+  pub sound-proper : (bytes store : List ℕ) → s .n * s .b ≤ length bytes → length store ≡ s .m * s .b
+      → Proper (record { stack = view ws store; bytes = bytes })
   unfolding view
   sound-proper bytes store g g′ =
       record { legal = sound-legal; residents = sound-residents; bytes = g; store = g′ }

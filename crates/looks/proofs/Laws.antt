@@ -1,15 +1,14 @@
--- A look by the steps of the code: no part where its number is not 0; else data and store are long enough for the block's part.
+-- A look by the steps of the code: no part where its number is not 0; else data and store have room for the block's part.
 use Prim.Native.Nat.{ℕ, _+_, _-_, _*_, _≤_}
 use native.Mathlib.Omega.{arith}
 use native.Mathlib.Nat.{zero-add}
 use mathlib.Core.Path.{_≡_, sym, _∙_}
-use mathlib.Core.Bool.{Bool, true, false, _||_, not}
-use mathlib.Core.List.{List, [], _∷_}
+use mathlib.Core.List.{List, []}
 use mathlib.Core.Option.{some}
 use lib.ListN.{length}
-use lib.Dec.{T, leb, ltb, nltb→le, nleb→lt}
+use lib.Dec.{T}
 use borrow.Author.Tests.{eq-eqb, ne-eqb}
-use Rattle.basics.specs.Basics.{first, blockAt}
+use Rattle.basics.specs.Basics.{blockAt}
 use Rattle.settings.specs.declared.Settings.{Settings}
 use Rattle.stack.specs.Recency.{Resident, position, lookup}
 use Rattle.stack.specs.PlaceLaws.{all-found}
@@ -20,17 +19,10 @@ use Rattle.layout.specs.declared.Found.{Found}
 use Rattle.layout.specs.declared.Found.the-variants.{At, Absent}
 use Rattle.promises.specs.DirectoryPromises.{foundResident}
 use Rattle.promises.specs.Looks.{placeAt, lookNumber, lookBytes, lookPlace}
+use Rattle.promises.specs.LookLaws.{LookAllowed, look-allowed}
 use Rattle.cache_steps.specs.Carried.{Ready, memory}
 use Rattle.cache_steps.specs.MovedLaws.{entry-room}
 use Rattle.cache_steps.specs.Places.{store-room}
-
--- the tests of a number that is 0
-passed : (a b c d : Bool) → first ((not a, 6) ∷ (b || c, 7) ∷ (d, 9) ∷ []) ≡ 0 → T a × T (not b) × T (not c) × T (not d)
-passed true false false false e = (tt, tt, tt, tt)
-passed true false false true e = absurd (omega arith)
-passed true false true d e = absurd (omega arith)
-passed true true c d e = absurd (omega arith)
-passed false b c d e = absurd (omega arith)
 
 -- the entry that a lookup finds is one of 1 to N
 found-fit : (w : List ℕ) → T (sound w) → (block : ℕ) (x : Resident ℕ) → lookup block (residentsIn w) ≡ some x → Fit (settingsIn w) x
@@ -47,21 +39,20 @@ module _ (w bytes store : List ℕ) (block n : ℕ) (number : n ≡ lookNumber w
   no-part inData inStore h = (rw (← number, ne-eqb n 0 h), rw (← number, ne-eqb n 0 h, zero-add))
 
   module _ (zero : n ≡ 0) where
-    tests : T (sound w) × T (not (ltb (length bytes) (settingsIn w .n * settingsIn w .b))) × T (not (ltb (length store) (settingsIn w .m * settingsIn w .b))) × T (not (leb (settingsIn w .m) block))
-    unfolding lookNumber
-    tests =
-        passed (sound w) (ltb (length bytes) (settingsIn w .n * settingsIn w .b)) (ltb (length store) (settingsIn w .m * settingsIn w .b)) (leb (settingsIn w .m) block)
-        (sym number ∙ zero)
+    its : LookAllowed w bytes store block
+    its = look-allowed w bytes store block (sym number ∙ zero)
 
     pub is-sound : T (sound w)
-    is-sound = tests .0
+    is-sound = its .is-sound
 
     ready : Ready (memory w bytes store)
-    ready = record { is-sound = is-sound; bytes-long = nltb→le _ _ (tests .1); store-long = nltb→le _ _ (tests .2) }
+    ready =
+        let e = its .memory .store-exact in
+        record { is-sound = is-sound; bytes-long = its .memory .bytes-long; store-long = omega (arith, e) }
 
     module _ (s : Settings) (e : s ≡ settingsIn w) where
       pub store-holds : block * s .b + s .b ≤ length store
-      store-holds = rw e (store-room (memory w bytes store) ready block (nleb→lt _ _ (tests .3)))
+      store-holds = rw e (store-room (memory w bytes store) ready block (its .inside))
 
       -- with what the lookup yields
       module _ {f : Found} (found : lookup block (residentsIn w) ≡ foundResident w f) where

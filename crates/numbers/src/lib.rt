@@ -1,8 +1,9 @@
+use stack::Lengths;
 ghost use mathlib.Core.Path.{_≡_};
 ghost use Rattle.promises.specs.Promises.{numberOf};
 ghost use Rattle.promises.specs.Looks.{lookNumber};
 
-// The number of a batch: 6 where the directory is not sound, 7 to 11, or 0 where it is accepted.
+// The number of a batch: 6 where the directory is not sound, 7 to 12, or 0 where it is accepted.
 pub fn number(
     dir: &[u32],
     bytes: &[u8],
@@ -17,19 +18,22 @@ pub fn number(
     if !soundness::sound(dir) {
         return 6;
     }
+    let lent = Lengths {
+        bytes: bytes.len(),
+        store: store.len(),
+        incoming: incoming.len(),
+        answers: answers.len(),
+        outgoing: outgoing.len(),
+    };
     batch_number::batch_number(
         header::settings_in(dir),
         header::references(dir),
-        bytes.len(),
-        store.len(),
         work,
-        incoming.len(),
-        answers.len(),
-        outgoing.len(),
+        lent,
     )
 }
 
-// The number of a look: 6, 7 or 9, or 0 where there is a part that holds the block.
+// The number of a look: 6, 7, 12 or 9, or 0 where there is a part that holds the block.
 pub fn look_number(dir: &[u32], bytes: &[u8], store: &[u8], block: u32) -> u32
     ensures { λ r. ⌜ r ≡ lookNumber (now (dir .entry)) (now (bytes .entry)) (now (store .entry)) block ⌝ }
 {
@@ -37,12 +41,9 @@ pub fn look_number(dir: &[u32], bytes: &[u8], store: &[u8], block: u32) -> u32
         return 6;
     }
     let s = header::settings_in(dir);
-    let b = s.b as usize;
-    if bytes.len() < (s.n as usize) * b {
-        return 7;
-    }
-    if store.len() < (s.m as usize) * b {
-        return 7;
+    let memory = batch_number::memory_number(s, bytes.len(), store.len());
+    if memory != 0 {
+        return memory;
     }
     if block >= s.m {
         return 9;

@@ -12,9 +12,9 @@ use Rattle.words.specs.Links.{linksChanged}
 use Rattle.settings.specs.declared.Settings.{Settings}
 use Rattle.stack.specs.Stack.{Plain, answerWord, empty}
 use Rattle.stack.specs.Batch.{Call, Result, work, AllReported, batch}
-use Rattle.stack.specs.Entries.{plain}
+use Rattle.stack.specs.Entries.{Cache, plain}
 use Rattle.layout.specs.Layout.{freshWords}
-use Rattle.layout.specs.Sound.{sound}
+use Rattle.layout.specs.Sound.{settingsIn, sound}
 use Rattle.promises.specs.Promises.{over, Fresh, Slices, cacheIn, behind, callOf, halved, Batch}
 
 -- ---- the calls of a list
@@ -77,15 +77,19 @@ asCall c =
       outgoingLength = length (c .outgoing);
     }
 
--- the plain stack at the start: its store is the M blocks, whatever follows them
+-- the plain stack at the start: its store is the front of M blocks
 abbrev pub starts : Settings → List ℕ → Plain
 starts s store = empty s (take (s .m * s .b) store)
 
+-- The cache that a memory shows: its store is the front of M blocks, exactly what an accepted batch is lent, whatever lies behind.
+abbrev pub shown : Memory → Cache
+shown m = cacheIn (m .directory) (m .bytes) (take (settingsIn (m .directory) .m * settingsIn (m .directory) .b) (m .store))
+
 -- The directory is sound; settings, totals, store and residents are the plain stack's, these in the same order, each with the same
--- block, count, mark and bytes; and past its M blocks the store is `rest`.
+-- block, count, mark and bytes; and behind the front of M blocks the store is `rest`.
 pub record Alike (m : Memory) (k : Plain) (rest : List ℕ) : Type 0 where
   pub is-sound : T (sound (m .directory))
-  pub same : plain (cacheIn (m .directory) (m .bytes) (m .store)) ≡ k
+  pub same : plain (shown m) ≡ k
   pub past : drop (k .settings .m * k .settings .b) (m .store) ≡ rest
 
 -- One call: the same number, answer words and read bytes; in every replacement the chains as demanded.

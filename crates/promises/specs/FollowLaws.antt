@@ -3,9 +3,9 @@ use Prim.Native.Nat.{ℕ, zero, suc, _*_, _≤_}
 use native.Mathlib.Omega.{arith}
 use mathlib.Core.Path.{_≡_, refl, sym, ap, ap₂, subst, subst₂, _∙_}
 use mathlib.Core.Bool.{not}
-use mathlib.Core.List.{List, [], _∷_, _++_, map}
-use lib.ListN.{length, take, drop, take-append-drop}
-use lib.Seq.{length-take-le, take-take, take-append-le, drop-append-le}
+use mathlib.Core.List.{List, [], _∷_, map}
+use lib.ListN.{length, drop, take-append-drop}
+use lib.Seq.{length-take-le, take-take, take-append-le, take-at, drop-at}
 use lib.Dec.{T}
 use Rattle.basics.specs.Basics.{All}
 use Rattle.words.specs.LinkLaws.{changed-same}
@@ -14,15 +14,12 @@ use Rattle.stack.specs.Stack.{Plain, Work, answerWord}
 use Rattle.stack.specs.Batch.{Ran, nothing, work, batchNumber, AllReported, batch}
 use Rattle.stack.specs.Entries.{Cache, plain, entryRun}
 use Rattle.stack.specs.RunLaws.{plainRan}
-use Rattle.stack.specs.BatchLaws.{Room, room, batch-declined}
+use Rattle.stack.specs.BatchLaws.{Fits, allowed, batch-declined}
 use Rattle.layout.specs.Sound.{settingsIn, totalsIn, sound, view}
-use Rattle.promises.specs.Promises.{over, Fresh, Slices, cacheIn, behind, callOf, numberOf, halved, Accepted, Batch}
+use Rattle.promises.specs.Promises.{over, Fresh, Slices, behind, callOf, numberOf, halved, Accepted, Batch}
 use Rattle.promises.specs.SliceLaws.{number-sound, accepted-same, accepted-reported, after-settings, after-bytes, after-store}
-use Rattle.promises.specs.Demand3.{Memory, Lending, lends, leaves, Linked, end, call, asCall, starts, Alike, Agrees, Follows, Demand3, LinkBound}
+use Rattle.promises.specs.Demand3.{Memory, Lending, lends, leaves, Linked, end, call, asCall, starts, shown, Alike, Agrees, Follows, Demand3, LinkBound}
 use Rattle.promises.specs.Demand3.{Idle, refused, wordless, memoryLeft, StillFresh}
-
-abbrev see : Memory → Cache
-see m = cacheIn (m .directory) (m .bytes) (m .store)
 
 -- ---- slices beside the memory that they are lent from
 
@@ -35,7 +32,7 @@ module _ (m : Memory) (c : Lending) (fits : c .bytesLength ≤ length (m .bytes)
   s = settingsIn (m .directory)
 
   abbrev k : Plain
-  k = plain (see m)
+  k = plain (shown m)
 
   given : callOf (c .words) (c .incoming) (lends m c) ≡ asCall c
   given = rw (length-take-le, length-take-le)
@@ -58,16 +55,18 @@ module _ (m : Memory) (c : Lending) (fits : c .bytesLength ≤ length (m .bytes)
       )
 
   module _ (e : batchNumber s (totalsIn (m .directory)) (callOf (c .words) (c .incoming) (lends m c)) ≡ 0) where
-    rooms : Room s (callOf (c .words) (c .incoming) (lends m c))
-    rooms = room s (totalsIn (m .directory)) (callOf (c .words) (c .incoming) (lends m c)) e
+    rooms : Fits s (length (lends m c .bytes)) (length (lends m c .store))
+    rooms = allowed s (totalsIn (m .directory)) (callOf (c .words) (c .incoming) (lends m c)) e .memory
 
-    -- with room for N and M blocks, the lent part shows what the memory shows
-    behind-lent : behind (lends m c) ≡ see m
+    front-lent : c .storeLength ≡ s .m * s .b
+    front-lent = sym (length-take-le (c .storeLength) (m .store) fits′) ∙ rooms .store-exact
+
+    -- with room for N blocks of data and the front of M blocks of store, the lent part is what the memory shows
+    behind-lent : behind (lends m c) ≡ shown m
     unfolding view
     behind-lent =
-        let g : s .n * s .b ≤ c .bytesLength = omega (arith, rooms .bytes, length-take-le (c .bytesLength) (m .bytes) fits) in
-        let g′ : s .m * s .b ≤ c .storeLength = omega (arith, rooms .store, length-take-le (c .storeLength) (m .store) fits′) in
-        rw (take-take (s .n * s .b) (c .bytesLength), take-take (s .m * s .b) (c .storeLength))
+        let g : s .n * s .b ≤ c .bytesLength = omega (arith, rooms .bytes-long, length-take-le (c .bytesLength) (m .bytes) fits) in
+        rw (take-take (s .n * s .b) (c .bytesLength), front-lent)
 
     module _ (after : Slices) (picked : List (Work × ℕ)) (acc : Accepted (c .words) (c .incoming) (lends m c) after picked) where
       abbrev t : Slices
@@ -79,28 +78,25 @@ module _ (m : Memory) (c : Lending) (fits : c .bytesLength ≤ length (m .bytes)
       same-ran : batch k (asCall c) .ran ≡ plainRan R
       same-ran = ap₂ (λ x y. batch (plain x) y .ran) (sym behind-lent) (sym given) ∙ accepted-same (c .words) (c .incoming) t h e after picked acc
 
-      see-after : see (leaves m c after) ≡ behind after
+      shown-after : shown (leaves m c after) ≡ behind after
       unfolding view
-      see-after =
+      shown-after =
           let g = after-bytes (c .words) (c .incoming) t h e after picked acc in
-          let g′ = after-store (c .words) (c .incoming) t h e after picked acc in
-          rw (take-append-le, take-append-le)
+          let own = after-store (c .words) (c .incoming) t h e after picked acc in
+          rw (take-at (after .store) (drop (c .storeLength) (m .store)) _ own, take-append-le)
 
       same-settings : settingsIn (after .directory) ≡ s
       same-settings = after-settings (c .words) (c .incoming) t h e after picked acc
 
       store-past : drop (s .m * s .b) (leaves m c after .store) ≡ drop (s .m * s .b) (m .store)
       store-past =
-          let g : s .m * s .b ≤ length (after .store) = subst (λ x. x .m * x .b ≤ length (after .store)) same-settings (after-store (c .words) (c .incoming) t h e after picked acc) in
-          let g′ = rooms .store in
-          drop-append-le (s .m * s .b) (after .store) (drop (c .storeLength) (m .store)) g
-          ∙ ap (λ x. x ++ drop (c .storeLength) (m .store)) (acc .store-past)
-          ∙ sym (drop-append-le (s .m * s .b) (take (c .storeLength) (m .store)) (drop (c .storeLength) (m .store)) g′)
-          ∙ ap (drop (s .m * s .b)) (take-append-drop (c .storeLength) (m .store))
+          let own = after-store (c .words) (c .incoming) t h e after picked acc in
+          let g : length (after .store) ≡ s .m * s .b = subst (λ x. length (after .store) ≡ x .m * x .b) same-settings own in
+          drop-at (after .store) (drop (c .storeLength) (m .store)) (s .m * s .b) g ∙ ap (λ n. drop n (m .store)) front-lent
 
-      after-same : plain (see (leaves m c after)) ≡ batch k (asCall c) .ran .after
+      after-same : plain (shown (leaves m c after)) ≡ batch k (asCall c) .ran .after
       unfolding plainRan
-      after-same = ap plain (see-after ∙ acc .cache) ∙ sym (ap (λ r. r .after) same-ran)
+      after-same = ap plain (shown-after ∙ acc .cache) ∙ sym (ap (λ r. r .after) same-ran)
 
       same-answers : after .answers ≡ over (map answerWord (batch k (asCall c) .ran .answers)) (c .answers)
       unfolding plainRan

@@ -1,24 +1,29 @@
 -- What a look promises (SCOPE, "Looking at a block"): the number of its companion, and the part of data or of store that holds
 -- the block's present bytes, by its bytes and by its place. Nothing is written. Statements only.
 use Prim.Native.Nat.{ℕ, _+_, _-_, _*_}
-use mathlib.Core.Bool.{_||_, not}
+use mathlib.Core.Bool.{Bool, not}
 use mathlib.Core.Option.{Option, none, some}
-use mathlib.Core.List.{List, [], _∷_}
+use mathlib.Core.List.{List, [], _∷_, _++_}
 use lib.ListN.{length}
-use lib.Dec.{leb, ltb, eqb}
+use lib.Dec.{leb, eqb}
 use Rattle.basics.specs.Basics.{if_then_else_, first, blockAt}
 use Rattle.stack.specs.Recency.{Resident, lookup}
+use Rattle.stack.specs.Batch.{memoryTests}
 use Rattle.layout.specs.Sound.{settingsIn, sound, residentsIn}
 
--- 6, 7 and 9, in the order in which they are checked; 0 where there is a part
-unfoldable pub lookNumber : List ℕ → List ℕ → List ℕ → ℕ → ℕ
+-- 6, 7, 12 and 9, in the order in which they are checked
+unfoldable pub lookTests : List ℕ → List ℕ → List ℕ → ℕ → List (Bool × ℕ)
 unfolding sound settingsIn
-lookNumber words bytes store block =
+lookTests words bytes store block =
     let s = settingsIn words in
-    first ((not (sound words), 6)
-    ∷ (ltb (length bytes) (s .n * s .b) || ltb (length store) (s .m * s .b), 7)
-    ∷ (leb (s .m) block, 9)
-    ∷ [])
+    (not (sound words), 6)
+    ∷ (memoryTests s (length bytes) (length store)
+    ++ ((leb (s .m) block, 9) ∷ []))
+
+-- 0 where there is a part
+unfoldable pub lookNumber : List ℕ → List ℕ → List ℕ → ℕ → ℕ
+unfolding lookTests
+lookNumber words bytes store block = first (lookTests words bytes store block)
 
 -- the part that is block i of a buffer begins there, given where the buffer does: a piece of memory, and a byte of it
 abbrev pub placeAt : ℕ → ℕ → ℕ × ℕ → ℕ × ℕ

@@ -3,18 +3,16 @@
 use Prim.Native.Nat.{ℕ, zero, suc, _*_}
 use native.Mathlib.Omega.{arith}
 use mathlib.Core.Path.{_≡_, refl, sym, ap, ap₂, subst₂, _∙_}
-use mathlib.Core.Bool.{Bool, true, false}
 use mathlib.Core.List.{List, _++_}
 use lib.ListN.{take, drop, take-append-drop}
 use lib.Dec.{T}
-use Rattle.basics.specs.Basics.{if_then_else_}
 use Rattle.settings.specs.declared.Settings.{Settings}
 use Rattle.settings.specs.Buckets.{directoryLength}
 use Rattle.stack.specs.Stack.{Work}
 use Rattle.stack.specs.Batch.{batchNumber}
 use Rattle.layout.specs.Sound.{settingsIn, totalsIn, residentsIn, sound, view}
 use Rattle.promises.specs.Promises.{Fresh, Slices, behind, callOf, numberOf, Accepted}
-use Rattle.promises.specs.SliceLaws.{number-sound, after-settings}
+use Rattle.promises.specs.SliceLaws.{number-zero, after-settings}
 
 -- ---- fresh
 
@@ -23,15 +21,6 @@ fresh-same s before zero a b p q = p .accepted refl ∙ sym (q .accepted refl)
 fresh-same s before (suc n) a b p q = p .declined (omega arith) ∙ sym (q .declined (omega arith))
 
 -- ---- an accepted batch
-
--- only a sound directory is accepted
-accepted-sound : (words incoming : List ℕ) (t : Slices) → numberOf words incoming t ≡ 0 → T (sound (t .directory))
-unfolding numberOf
-accepted-sound words incoming t = go (sound (t .directory))
-  where
-    go : (b : Bool) → (if b then batchNumber (settingsIn (t .directory)) (totalsIn (t .directory)) (callOf words incoming t) else 6) ≡ 0 → T b
-    go true e = tt
-    go false e = absurd (omega arith)
 
 -- two lists with the same front and the same rest
 joined : (n : ℕ) (x y : List ℕ) → take n x ≡ take n y → drop n x ≡ drop n y → x ≡ y
@@ -44,10 +33,10 @@ module _ (words incoming : List ℕ) (before a b : Slices) (picked : List (Work 
   s = settingsIn (before .directory)
 
   is-sound : T (sound (before .directory))
-  is-sound = accepted-sound words incoming before number
+  is-sound = number-zero words incoming before number .0
 
   allowed : batchNumber s (totalsIn (before .directory)) (callOf words incoming before) ≡ 0
-  allowed = sym (number-sound words incoming before is-sound) ∙ number
+  allowed = number-zero words incoming before number .1
 
   of-a : settingsIn (a .directory) ≡ s
   of-a = after-settings words incoming before is-sound allowed a picked p
@@ -87,10 +76,7 @@ module _ (words incoming : List ℕ) (before a b : Slices) (picked : List (Work 
 
   pub store-same : a .store ≡ b .store
   unfolding view
-  store-same =
-      joined (s .m * s .b) (a .store) (b .store)
-      (subst₂ (λ x y. take (x .m * x .b) (a .store) ≡ take (y .m * y .b) (b .store)) of-a of-b (ap (λ c. c .stack .store) same))
-      (p .store-past ∙ sym (q .store-past))
+  store-same = ap (λ c. c .stack .store) same
 
   pub answers-same : a .answers ≡ b .answers
   answers-same = p .answers ∙ sym (q .answers)

@@ -39,11 +39,11 @@ pub record Slices : Type 0 where
   pub answers : List ℕ
   pub outgoing : List ℕ
 
--- The cache behind words, data and store: of the data N blocks, of the store M.
+-- The cache behind words, data and store: of the data N blocks, the store whole.
 abbrev pub cacheIn : List ℕ → List ℕ → List ℕ → Cache
 cacheIn words bytes store =
     record {
-      stack = view words (take (settingsIn words .m * settingsIn words .b) store);
+      stack = view words store;
       bytes = take (settingsIn words .n * settingsIn words .b) bytes;
     }
 
@@ -62,7 +62,7 @@ callOf words incoming t =
       outgoingLength = length (t .outgoing);
     }
 
--- 6 to 11, or 0
+-- 6 to 12, or 0
 unfoldable pub numberOf : List ℕ → List ℕ → Slices → ℕ
 unfolding sound settingsIn totalsIn batchNumber
 numberOf words incoming t =
@@ -96,7 +96,6 @@ module _ (words incoming : List ℕ) (before after : Slices) (picked : List (Wor
     pub outgoing : after .outgoing ≡ over (ran .outgoing) (before .outgoing)
     pub words-past : drop (directoryLength s) (after .directory) ≡ drop (directoryLength s) (before .directory)
     pub bytes-past : drop (s .n * s .b) (after .bytes) ≡ drop (s .n * s .b) (before .bytes)
-    pub store-past : drop (s .m * s .b) (after .store) ≡ drop (s .m * s .b) (before .store)
     -- an empty batch changes nothing, what is left open neither
     pub empty-batch : words ≡ [] → after ≡ before
     -- one read, write or purge that doesn't halve the counts
