@@ -20,15 +20,17 @@
  * Sizes of the lent memory:
  *   directory   fbr_directory_words(N, Cmax) words, or more: words past that stay untouched
  *   data        N * B bytes, or more
- *   store       M * B bytes, or more; block k is the B bytes from k * B on
+ *   store       M * B bytes, neither more nor less; block k is the B bytes from k * B on
  *   work        at most 1,024 words
  *   answers     one word for each work word, or more
  *   incoming    B bytes for each write, or more
  *   outgoing    B bytes for each read, or more
+ * Pass the length that the store has, not M * B worked out from the settings: another store is found out by it alone.
  *
- * Numbers that fbr_fresh, fbr_batch, fbr_look_number, fbr_totals and fbr_occupancy return, checked in this order;
- * fbr_totals and fbr_occupancy check 10 before 6. One of these calls that returns another number than 0 has changed
- * nothing, except that fbr_totals and fbr_occupancy write zeros with 6. fbr_number_text gives each number's text.
+ * Numbers that fbr_fresh, fbr_batch, fbr_look_number, fbr_totals and fbr_occupancy return, checked in this order, 12
+ * right after 7; fbr_totals and fbr_occupancy check 10 before 6. One of these calls that returns another number than 0
+ * has changed nothing, except that fbr_totals and fbr_occupancy write zeros with 6. fbr_number_text gives each number's
+ * text.
  *    0  accepted
  *    1  N outside its limits                                                 fresh
  *    2  Nold is 0 or Nnew + Nold exceeds N                                   fresh
@@ -37,6 +39,7 @@
  *    5  directory too short                                                  fresh
  *    6  directory not sound                                                  batch, look, totals, occupancy
  *    7  data below N * B or store below M * B bytes                          batch, look
+ *   12  store above M * B bytes                                              batch, look
  *    8  more than 1,024 work words                                           batch
  *    9  a kind outside 1 to 4, a block of M or more, a flush with a value    batch; look: a block of M or more
  *   10  answers, incoming or outgoing shorter than the batch needs           batch; totals: out below 4 numbers;
@@ -50,14 +53,14 @@
 #include <stdint.h>
 
 /* The version, as a number for #if (major * 10000 + minor * 100 + patch) and as a text. */
-#define FBR_VERSION 300
-#define FBR_VERSION_TEXT "0.3.0"
+#define FBR_VERSION 400
+#define FBR_VERSION_TEXT "0.4.0"
 
 #ifdef __cplusplus
 extern "C" {
 #endif
 
-/* The returned numbers. */
+/* The returned numbers, in the order of the checks. */
 enum {
     FBR_ACCEPTED = 0,
     FBR_BAD_N = 1,
@@ -67,6 +70,7 @@ enum {
     FBR_SHORT_DIRECTORY = 5,
     FBR_UNSOUND = 6,
     FBR_SHORT_DATA_OR_STORE = 7,
+    FBR_LONG_STORE = 12,
     FBR_TOO_MANY_WORDS = 8,
     FBR_BAD_WORD = 9,
     FBR_SHORT_BUFFER = 10,
@@ -84,6 +88,7 @@ static inline const char *fbr_number_text(uint32_t number) {
     case FBR_SHORT_DIRECTORY: return "the directory is too short for the settings";
     case FBR_UNSOUND: return "the directory is not sound";
     case FBR_SHORT_DATA_OR_STORE: return "data is shorter than N x B bytes, or the store shorter than M x B";
+    case FBR_LONG_STORE: return "the store is longer than M x B bytes";
     case FBR_TOO_MANY_WORDS: return "the batch has more than 1,024 work words";
     case FBR_BAD_WORD: return "a block is M or more, a work word has a wrong kind, or a flush has a value";
     case FBR_SHORT_BUFFER: return "a buffer is too short: answers, incoming, outgoing or out";
@@ -151,15 +156,15 @@ uint32_t fbr_fresh(uint32_t n, uint32_t nnew, uint32_t nold, uint32_t cmax, uint
 /*
  * Runs the work words in order. The j-th write takes the j-th B bytes of incoming, the j-th read fills the j-th B
  * bytes of outgoing, and each work word gets one answer word. Buffer contents beyond these parts stay untouched.
- * Returns 0, or 6 to 11 and leaves all buffers as they were. After 0 the directory is sound again.
+ * Returns 0, or 6 to 12 and leaves all buffers as they were. After 0 the directory is sound again.
  */
 uint32_t fbr_batch(uint32_t *dir, size_t dir_len, uint8_t *data, size_t data_len, uint8_t *store, size_t store_len,
                    const uint32_t *work, size_t work_len, const uint8_t *incoming, size_t incoming_len,
                    uint32_t *answers, size_t answers_len, uint8_t *outgoing, size_t outgoing_len);
 
 /*
- * The number of a look at a block: 0, or 6, 7 or 9. Nothing changes. A block has 32 bits: compare a wider number with M
- * before you pass it.
+ * The number of a look at a block: 0, or 6, 7, 12 or 9. Nothing changes. A block has 32 bits: compare a wider number
+ * with M before you pass it.
  */
 uint32_t fbr_look_number(const uint32_t *dir, size_t dir_len, const uint8_t *data, size_t data_len,
                          const uint8_t *store, size_t store_len, uint32_t block);

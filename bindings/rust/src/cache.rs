@@ -24,11 +24,11 @@ pub struct Cache {
 }
 
 impl Cache {
-    /// A cache with no residents over this store, which may be longer than [`Settings::store_bytes`].
+    /// A cache with no residents over this store of exactly [`Settings::store_bytes`] bytes.
     ///
     /// # Errors
     ///
-    /// 1 to 4, or 7 where the store is too short. The error's `parts.store` is the store.
+    /// 1 to 4, 7 where the store is too short, or 12 where it is too long. The error's `parts.store` is the store.
     pub fn new(settings: &Settings, store: Vec<u8>) -> Result<Cache, NotTaken> {
         let mut directory = vec![0; settings.directory_words()];
         // first, so that no data is allocated for sizes outside their limits
@@ -46,8 +46,8 @@ impl Cache {
     ///
     /// # Errors
     ///
-    /// 6 or 7. The error gives the parts back as they were. Where the directory is damaged, the store can still be used
-    /// as it is, without what was written since the last flush and not written out by a replacement:
+    /// 6, 7 or 12. The error gives the parts back as they were. Where the directory is damaged, the store can still be
+    /// used as it is, without what was written since the last flush and not written out by a replacement:
     ///
     /// ```
     /// use fbr::{Cache, NotTaken, Refusal, Settings, Work};
@@ -78,7 +78,7 @@ impl Cache {
     ///
     /// # Errors
     ///
-    /// 8 to 11; 6 or 7 only where [`Cache::memory`] was used to change the directory. Nothing has changed then.
+    /// 8 to 11; 6, 7 or 12 only where [`Cache::memory`] was used to change the directory. Nothing has changed then.
     pub fn run(&mut self, work: &[Work], incoming: &[u8]) -> Result<Ran, Refusal> {
         let b = self.parts().block_bytes();
         let words: Vec<u32> = work.iter().map(|word| word.word()).collect();
@@ -93,7 +93,7 @@ impl Cache {
     ///
     /// # Errors
     ///
-    /// 9 where the block is M or more. 6 or 7 only where [`Cache::memory`] was used to change the directory.
+    /// 9 where the block is M or more. 6, 7 or 12 only where [`Cache::memory`] was used to change the directory.
     pub fn look(&self, block: u32) -> Result<Vec<u8>, Refusal> {
         self.parts().look(block)
     }

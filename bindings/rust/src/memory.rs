@@ -48,7 +48,8 @@ pub struct Memory<'a> {
     pub directory: &'a mut [u32],
     /// The data buffer, [`Settings::data_bytes`] bytes or more.
     pub data: &'a mut [u8],
-    /// The store, [`Settings::store_bytes`] bytes or more; block k is the B bytes from k × B on.
+    /// The store, exactly [`Settings::store_bytes`] bytes; block k is the B bytes from k × B on. Lend it with the
+    /// length that it has: another store is found out by that alone.
     pub store: &'a mut [u8],
 }
 
@@ -60,7 +61,7 @@ impl Memory<'_> {
     ///
     /// # Errors
     ///
-    /// 6 to 11; all memory is then as it was.
+    /// 6 to 12; all memory is then as it was.
     pub fn batch(
         &mut self, work: &[u32], incoming: &[u8], answers: &mut [u32], outgoing: &mut [u8],
     ) -> Result<(), Refusal> {
@@ -92,7 +93,7 @@ impl Memory<'_> {
     ///
     /// # Errors
     ///
-    /// 6, 7 or 9.
+    /// 6, 7, 12 or 9.
     pub fn look_number(&self, block: u32) -> Result<(), Refusal> {
         self.view().look_number(block)
     }
@@ -101,7 +102,7 @@ impl Memory<'_> {
     ///
     /// # Errors
     ///
-    /// 6, 7, 9 or 10; `out` is then as it was.
+    /// 6, 7, 12, 9 or 10; `out` is then as it was.
     pub fn look_into(&self, block: u32, out: &mut [u8]) -> Result<usize, Refusal> {
         self.view().look_into(block, out)
     }
@@ -110,7 +111,7 @@ impl Memory<'_> {
     ///
     /// # Errors
     ///
-    /// 6, 7 or 9.
+    /// 6, 7, 12 or 9.
     pub fn look(&self, block: u32) -> Result<Vec<u8>, Refusal> {
         self.view().look(block)
     }
@@ -159,7 +160,7 @@ impl View<'_> {
     ///
     /// # Errors
     ///
-    /// 6, 7 or 9.
+    /// 6, 7, 12 or 9.
     pub fn look_number(&self, block: u32) -> Result<(), Refusal> {
         // SAFETY: three Rust slices, which the call only reads.
         outcome(unsafe { over!(self, as_ptr, fbr_look_number(block)) })
@@ -171,7 +172,7 @@ impl View<'_> {
     ///
     /// # Errors
     ///
-    /// 6, 7 or 9, and 10 where `out` is shorter than B; `out` is then as it was.
+    /// 6, 7, 12 or 9, and 10 where `out` is shorter than B; `out` is then as it was.
     pub fn look_into(&self, block: u32, out: &mut [u8]) -> Result<usize, Refusal> {
         // SAFETY: three Rust slices, which the call only reads, and `out`, which is borrowed alone.
         let length = unsafe { over!(self, as_ptr, fbr_look_into(block, out.as_mut_ptr(), out.len())) };
@@ -189,7 +190,7 @@ impl View<'_> {
     ///
     /// # Errors
     ///
-    /// 6, 7 or 9.
+    /// 6, 7, 12 or 9.
     pub fn look(&self, block: u32) -> Result<Vec<u8>, Refusal> {
         // the bytes fit if the directory is sound, so one call is enough
         let mut out = vec![0; self.block_bytes()];

@@ -2,9 +2,10 @@ use std::fmt;
 
 /// Why a call declined. A declined call has changed nothing.
 ///
-/// The cases are checked in this order. [`fresh`](crate::fresh) gives 1 to 5, a batch 6 to 11, a look 6, 7 or 9, a look
-/// into a buffer 10 too, totals, occupancy and settings 6. [`Cache::new`](crate::Cache::new) gives 1 to 4 and 7,
-/// [`Cache::from_parts`](crate::Cache::from_parts) 6 and 7.
+/// The cases are checked in this order, 12 right after 7. [`fresh`](crate::fresh) gives 1 to 5, a batch 6 to 12, a look
+/// 6, 7, 12 or 9, a look into a buffer 10 too, totals, occupancy and settings 6.
+/// [`Cache::new`](crate::Cache::new) gives 1 to 4, 7 and 12, and [`Cache::from_parts`](crate::Cache::from_parts) 6, 7
+/// and 12.
 #[derive(Clone, Copy, Debug, PartialEq, Eq, Hash)]
 #[non_exhaustive]
 pub enum Refusal {
@@ -22,6 +23,8 @@ pub enum Refusal {
     Unsound,
     /// 7: data has fewer than N × B bytes, or the store fewer than M × B.
     ShortDataOrStore,
+    /// 12: the store has more than M × B bytes.
+    LongStore,
     /// 8: the batch has more than 1,024 work words.
     TooManyWords,
     /// 9: a work word's kind is outside 1 to 4, a block is M or more, or a flush has a value.
@@ -35,7 +38,7 @@ pub enum Refusal {
 }
 
 impl Refusal {
-    /// The refusals that this crate knows, in the order of their numbers.
+    /// The refusals that this crate knows, in the order of the checks.
     pub const ALL: &'static [Refusal] = &[
         Refusal::BadCacheSize,
         Refusal::BadSections,
@@ -44,6 +47,7 @@ impl Refusal {
         Refusal::ShortDirectory,
         Refusal::Unsound,
         Refusal::ShortDataOrStore,
+        Refusal::LongStore,
         Refusal::TooManyWords,
         Refusal::BadWord,
         Refusal::ShortBuffer,
@@ -60,6 +64,7 @@ impl Refusal {
             Refusal::ShortDirectory => 5,
             Refusal::Unsound => 6,
             Refusal::ShortDataOrStore => 7,
+            Refusal::LongStore => 12,
             Refusal::TooManyWords => 8,
             Refusal::BadWord => 9,
             Refusal::ShortBuffer => 10,
@@ -91,6 +96,7 @@ impl Refusal {
             Refusal::ShortDirectory => "the directory is too short for the settings",
             Refusal::Unsound => "the directory is not sound",
             Refusal::ShortDataOrStore => "data is shorter than N x B bytes, or the store shorter than M x B",
+            Refusal::LongStore => "the store is longer than M x B bytes",
             Refusal::TooManyWords => "the batch has more than 1,024 work words",
             Refusal::BadWord => "a block is M or more, a work word has a wrong kind, or a flush has a value",
             Refusal::ShortBuffer => "a buffer is too short: answers, incoming, outgoing or out",

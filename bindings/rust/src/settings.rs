@@ -67,7 +67,7 @@ impl Settings {
         (self.n as usize).saturating_mul(self.b as usize)
     }
 
-    /// The bytes that the store needs: M × B.
+    /// The bytes that the store has, neither more nor less: M × B.
     pub fn store_bytes(&self) -> usize {
         (self.m as usize).saturating_mul(self.b as usize)
     }

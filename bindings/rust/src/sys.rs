@@ -17,14 +17,14 @@ extern "C" {
         n: u32, nnew: u32, nold: u32, cmax: u32, amax: u32, b: u32, m: u32, dir: *mut u32, dir_len: usize,
     ) -> u32;
 
-    /// Runs the work words in order. Returns 0, or 6 to 11 and leaves all memory as it was.
+    /// Runs the work words in order. Returns 0, or 6 to 12 and leaves all memory as it was.
     pub fn fbr_batch(
         dir: *mut u32, dir_len: usize, data: *mut u8, data_len: usize, store: *mut u8, store_len: usize,
         work: *const u32, work_len: usize, incoming: *const u8, incoming_len: usize, answers: *mut u32,
         answers_len: usize, outgoing: *mut u8, outgoing_len: usize,
     ) -> u32;
 
-    /// The number of a look at a block: 0, or 6, 7 or 9. Nothing changes.
+    /// The number of a look at a block: 0, or 6, 7, 12 or 9. Nothing changes.
     pub fn fbr_look_number(
         dir: *const u32, dir_len: usize, data: *const u8, data_len: usize, store: *const u8, store_len: usize,
         block: u32,

@@ -143,7 +143,7 @@ fn numbers_1_to_5() {
 }
 
 #[test]
-fn numbers_6_to_11() {
+fn numbers_6_to_12() {
     let number = |cache: &mut Lent, work: &[u32], incoming: usize, answers: usize, outgoing: usize| {
         let before = (cache.directory.clone(), cache.data.clone(), cache.store.clone());
         let (mut answers, mut outgoing) = (vec![7; answers], vec![7; outgoing]);
@@ -173,6 +173,13 @@ fn numbers_6_to_11() {
     belt.store.pop();
     assert_eq!(number(&mut belt, &work, 8, 2, 8), 7);
     belt.store.push(63);
+    for more in [1, 8, 512] {
+        belt.store.resize(BELT.store_bytes() + more, 63);
+        assert_eq!(number(&mut belt, &work, 8, 2, 8), 12, "{more} bytes more");
+        assert_eq!(number(&mut belt, &[Work::Read(64).word()], 0, 0, 0), 12, "12 comes before 9 and 10");
+        assert_long_store(&mut belt);
+    }
+    belt.store.truncate(BELT.store_bytes());
     assert_eq!(belt.memory().look(64), Err(Refusal::BadWord));
     assert_eq!(belt.memory().look_number(u32::MAX), Err(Refusal::BadWord));
 
@@ -195,6 +202,16 @@ fn numbers_6_to_11() {
     assert_eq!(belt.memory().totals(), Err(Refusal::Unsound));
     assert_eq!(belt.memory().settings(), Err(Refusal::Unsound));
     assert!(!sound(&[]));
+}
+
+/// Every look over a longer store is declined, also at a block of M, and no byte is copied.
+fn assert_long_store(belt: &mut Lent) {
+    for block in [1, 64] {
+        let mut out = [7; 8];
+        assert_eq!(belt.memory().look_number(block), Err(Refusal::LongStore));
+        assert_eq!(belt.memory().look_into(block, &mut out), Err(Refusal::LongStore));
+        assert_eq!((belt.memory().look(block), out), (Err(Refusal::LongStore), [7; 8]));
+    }
 }
 
 /// The present bytes of all blocks.
@@ -246,10 +263,11 @@ fn looks_save_a_full_cache() {
 
 #[test]
 fn refusals_and_their_numbers() {
-    for (i, refusal) in Refusal::ALL.iter().copied().enumerate() {
-        assert_eq!(refusal.number(), i as u32 + 1);
+    let numbers: Vec<u32> = Refusal::ALL.iter().map(|refusal| refusal.number()).collect();
+    assert_eq!(numbers, [1, 2, 3, 4, 5, 6, 7, 12, 8, 9, 10, 11], "the order of the checks");
+    for refusal in Refusal::ALL.iter().copied() {
         assert_eq!(Refusal::from_number(refusal.number()), Some(refusal));
-        assert!(refusal.to_string().starts_with(&format!("{}: ", i + 1)));
+        assert!(refusal.to_string().starts_with(&format!("{}: ", refusal.number())));
     }
     assert_eq!(Refusal::from_number(0), None);
     assert_eq!(outcome(0), Ok(()));

@@ -64,13 +64,20 @@ fn new_gives_a_refused_store_back() {
         (Settings { b: u32::MAX, ..BELT }, 4),
         (Settings { m: u32::MAX, ..BELT }, 4),
         (Settings { m: 65, ..BELT }, 7),
+        // a store of 64 blocks of 8 bytes is too long for these
+        (Settings { m: 63, ..BELT }, 12),
+        (Settings { b: 7, ..BELT }, 12),
+        (Settings { n: 0, m: 63, ..BELT }, 1),
     ];
     for (settings, number) in wrong {
         let (refusal, parts) = refused(Cache::new(&settings, store.clone()));
         assert_eq!((refusal.number(), parts.store), (number, store.clone()), "{settings:?}");
     }
-    let longer = [&store[..], &[9; 5]].concat();
-    assert_eq!(Cache::new(&BELT, longer.clone()).unwrap().store(), longer);
+    for more in [1, 8, 512] {
+        let longer = [&store[..], &vec![9; more]].concat();
+        let (refusal, parts) = refused(Cache::new(&BELT, longer.clone()));
+        assert_eq!((refusal, parts.store), (Refusal::LongStore, longer));
+    }
 }
 
 #[test]
@@ -101,11 +108,17 @@ fn from_parts_gives_refused_parts_back() {
     let good = cache(BELT).into_parts();
     let mut unsound = good.clone();
     unsound.directory[9] ^= 1;
-    let (mut cut, mut short_data, mut short_store) = (good.clone(), good.clone(), good);
+    let (mut cut, mut short_data, mut short_store, mut long_store) = (good.clone(), good.clone(), good.clone(), good);
     cut.directory.pop();
     short_data.data.pop();
     short_store.store.pop();
+    long_store.store.push(9);
+    // where two things are wrong, the one that is checked first is said
+    let with_long_store = |parts: &Parts| Parts { store: long_store.store.clone(), ..parts.clone() };
     for (parts, refusal) in [
+        (with_long_store(&cut), Refusal::Unsound),
+        (with_long_store(&short_data), Refusal::ShortDataOrStore),
+        (long_store.clone(), Refusal::LongStore),
         (unsound, Refusal::Unsound),
         (cut, Refusal::Unsound),
         (Parts::default(), Refusal::Unsound),
@@ -142,7 +155,13 @@ fn damage_in_place() {
     belt.memory().directory[5] = u32::MAX;
     assert_eq!(belt.run(&reads(&[1, 2]), &[]), Err(Refusal::Unsound));
     let store = belt.into_parts().store;
-    assert_eq!(Cache::new(&BELT, store).unwrap().look(9).unwrap(), [9; 8]);
+    let mut belt = Cache::new(&BELT, store).unwrap();
+    assert_eq!(belt.look(9).unwrap(), [9; 8]);
+    // an M that became smaller leaves the directory sound and the store too long
+    belt.memory().directory[6] ^= 64 ^ 63;
+    assert_eq!(belt.settings(), Ok(Settings { m: 63, ..BELT }));
+    assert_eq!(belt.run(&[Work::Flush], &[]), Err(Refusal::LongStore));
+    assert_eq!(belt.look(0), Err(Refusal::LongStore));
 }
 
 #[test]
