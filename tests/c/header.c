@@ -7,6 +7,8 @@
  *   answer WORD       kind, value, then each FBR_ANSWER_ macro in the header's order
  *   word KIND VALUE   fbr_word, and the number of a batch of that one word over a store of the most blocks
  *   empty             the number of a batch without words over the pointers for empty slices
+ *   store LENGTH      a write and a flush over a store of so many bytes, M * B of which are right: the batch's number,
+ *                     then a look's, the length of its part, and whether all memory was kept or something changed
  */
 #include <inttypes.h>
 #include <stdio.h>
@@ -66,6 +68,27 @@ static void show_word(void) {
     printf("%" PRIu32 " %" PRIu32 "\n", word, number_of(word));
 }
 
+/* What the calls over a store of any length may write to, the memory behind the store too, and a copy from before. */
+static struct {
+    uint32_t directory[WORDS], answers[2];
+    uint8_t data[N * B], store[2 * M * B], out[B];
+} lent, before;
+
+static void show_store(size_t length) {
+    const uint32_t work[2] = {fbr_word(FBR_WRITE, M - 1), fbr_word(FBR_FLUSH, 0)};
+    const uint8_t in[B] = {1};
+    memset(&lent, 0, sizeof lent);
+    fbr_fresh(N, 0, 1, CMAX, 1, B, M, lent.directory, WORDS);
+    memcpy(&before, &lent, sizeof lent);
+    uint32_t number = fbr_batch(lent.directory, WORDS, lent.data, sizeof lent.data, lent.store, length, work, 2, in, B,
+                                lent.answers, 2, fbr_no_bytes(), 0);
+    uint32_t look = fbr_look_number(lent.directory, WORDS, lent.data, sizeof lent.data, lent.store, length, M - 1);
+    size_t part = fbr_look_into(lent.directory, WORDS, lent.data, sizeof lent.data, lent.store, length, M - 1, lent.out,
+                                sizeof lent.out);
+    const char *after = memcmp(&lent, &before, sizeof lent) == 0 ? "kept" : "changed";
+    printf("%" PRIu32 " %" PRIu32 " %zu %s\n", number, look, part, after);
+}
+
 static int is(const char *a, const char *b) { return strcmp(a, b) == 0; }
 
 static int show(const char *question) {
@@ -76,6 +99,7 @@ static int show(const char *question) {
     else if (is(question, "answer")) show_answer(asked());
     else if (is(question, "word")) show_word();
     else if (is(question, "empty")) printf("%" PRIu32 "\n", number_of_none());
+    else if (is(question, "store")) show_store(asked());
     else return 0;
     return 1;
 }

@@ -44,7 +44,7 @@ pub fn fresh(s: Settings, dir: &mut [u32]) -> u32 {
     unsafe { sys::fbr_fresh(s.n, s.nnew, s.nold, s.cmax, s.amax, s.b, s.m, dir.as_mut_ptr(), dir.len()) }
 }
 
-/// Runs a batch of work words and returns 0, or changes nothing and returns 6 to 11.
+/// Runs a batch of work words and returns 0, or changes nothing and returns 6 to 12.
 #[inline]
 pub fn batch(
     dir: &mut [u32], data: &mut [u8], store: &mut [u8], work: &[u32], incoming: &[u8], answers: &mut [u32],
@@ -70,7 +70,7 @@ pub fn batch(
     }
 }
 
-/// The number of a look at a block: 0, or 6, 7 or 9.
+/// The number of a look at a block: 0, or 6, 7, 12 or 9.
 #[inline]
 pub fn look_number(dir: &[u32], data: &[u8], store: &[u8], block: u32) -> u32 {
     let (d, b, s) = (dir.as_ptr(), data.as_ptr(), store.as_ptr());

@@ -51,7 +51,7 @@ impl Corners {
 }
 
 fn print(histories: usize, seen: &Seen) {
-    println!("{histories} histories; calls that returned 0 to 11: {:?}; {} looks", seen.numbers, seen.looks);
+    println!("{histories} histories; calls that returned 0 to 12: {:?}; {} looks", seen.numbers, seen.looks);
     println!(
         "  answers 1 to 6: {:?}, {} halved, {} victims written out, up to {} chains",
         &seen.answers[1..],
@@ -78,7 +78,8 @@ fn fresh_then_batches() {
     print(histories, &seen);
     corners.all_reached(50);
     // 11 needs totals that no such history reaches
-    assert!((0..=10).all(|number| seen.numbers[number] > 100));
+    assert!((0..=10).chain([12]).all(|number| seen.numbers[number] > 100));
+    assert_eq!(seen.longer_looks, histories as u64);
     assert!(seen.answers[1..].iter().all(|&times| times > 5_000) && seen.halved > 5_000 && seen.written_out > 5_000);
     assert!(seen.most_chains > 10);
 }
@@ -98,7 +99,8 @@ fn batches_from_built_directories() {
     }
     print(histories, &seen);
     corners.all_reached(30);
-    assert!((0..=11).all(|number| seen.numbers[number] > 100));
+    assert!(seen.numbers.iter().all(|&times| times > 100));
+    assert_eq!(seen.longer_looks, histories as u64);
     assert!(seen.answers[1..].iter().all(|&times| times > 3_000) && seen.halved > 3_000 && seen.written_out > 3_000);
     assert_eq!(seen.most_chains, MAX_CMAX);
 }

@@ -4,7 +4,7 @@ use cache_tests::reference::judge;
 use cache_tests::reference::rng::Rng;
 use cache_tests::reference::settings::{directory_length, named, Profile};
 use cache_tests::reference::stack::work;
-use cache_tests::{batch, fresh, look_into, sound, Settings};
+use cache_tests::{batch, fresh, look_into, look_number, sound, Settings};
 use std::collections::BTreeMap;
 
 const B: usize = 64;
@@ -146,6 +146,33 @@ fn a_flip_of_the_sizes_asks_for_longer_memory() {
         }
     }
     assert_eq!(refused, 11 + 17);
+}
+
+/// A flip of B or M makes M × B another number, so that the same store is too short, 7, or too long, 12.
+#[test]
+fn every_flip_of_the_sizes_is_declined() {
+    // every other bit is set, so that flips go both ways
+    let s = Settings { n: 4, nnew: 1, nold: 2, cmax: 3, amax: 100, b: 0b1010_1010, m: 0b1_0101_0101 };
+    let mut dir = vec![0; directory_length(s) as usize];
+    assert_eq!(fresh(s, &mut dir), 0);
+    let (mut data, mut store) = (vec![0; (s.n * s.b) as usize], vec![0; (s.m * s.b) as usize]);
+    let (mut larger, mut smaller) = (0, 0);
+    for (address, bit) in [header::B, header::M].into_iter().flat_map(|address| (0..28).map(move |bit| (address, bit)))
+    {
+        let mut flipped = dir.clone();
+        flipped[address] ^= 1 << bit;
+        if sound(&flipped) {
+            let grew = flipped[address] > dir[address];
+            let expected = if grew { 7 } else { 12 };
+            let told = format!("word {address}, bit {bit}");
+            assert_eq!(look_number(&flipped, &data, &store, 0), expected, "{told}");
+            let number = batch(&mut flipped, &mut data, &mut store, &[], &[], &mut [], &mut []);
+            assert_eq!(number, expected, "{told}");
+            (larger, smaller) = (larger + u32::from(grew), smaller + u32::from(!grew));
+        }
+    }
+    // B: bits 0 to 11, M: bits 0 to 17; the others lead outside the limits
+    assert_eq!((larger, smaller), (8 + 13, 4 + 5));
 }
 
 /// A flip that stays sound, and what then happens: the bytes of one block are taken for another's.

@@ -196,8 +196,8 @@ fn quoted(text: &str) -> Vec<&str> {
     text.split('`').skip(1).step_by(2).collect()
 }
 
-/// Each public function of the C interface, the directory, the settings, FNV-1a, the numbers and the occupancy has two
-/// wrong programs of its own: docs/PROOFS.md names them, a group for each function, and they are there.
+/// Each public function of the C interface, the directory, the settings, FNV-1a, the numbers, a look and the occupancy
+/// has two wrong programs of its own: docs/PROOFS.md names them, a group for each function, and they are there.
 #[test]
 fn every_public_function_has_two_wrong_programs() {
     let proofs = fs::read_to_string(root().join("docs/PROOFS.md")).unwrap();
@@ -217,7 +217,7 @@ fn every_public_function_has_two_wrong_programs() {
         }
         told.extend(functions.iter().map(|name| name.rsplit("::").next().unwrap()));
     }
-    for name in ["fbr", "directory", "settings", "fnv", "numbers", "occupancy"] {
+    for name in ["fbr", "directory", "settings", "fnv", "batch_number", "numbers", "looks", "occupancy"] {
         for line in source(&format!("{name}/src/lib.rt")).lines().map(str::trim) {
             let Some(rest) = line.strip_prefix("pub fn ").or(line.strip_prefix("pub extern \"C\" fn ")) else {
                 continue;

@@ -7,6 +7,7 @@ use std::sync::OnceLock;
 
 #[path = "../c/compile.rs"]
 mod compile;
+use cache_tests::reference::beside::NUMBERS;
 use compile::{compiled, text, LANGUAGES};
 
 /// A function's parameters, name and type, and what it returns; types are spelled as in Rust.
@@ -153,14 +154,63 @@ fn the_library_exports_the_same_functions() {
 
 #[test]
 fn texts_of_the_numbers() {
-    let asked: Vec<u32> = (0..=12).chain([99, u32::MAX]).collect();
+    let asked: Vec<u32> = (0..=NUMBERS as u32).chain([99, u32::MAX]).collect();
     let said = header_says(&asked.iter().map(|number| format!("text {number}")).collect::<Vec<_>>());
-    assert_eq!((said[0].as_str(), said[12].as_str()), ("accepted", "not a number of this library"));
-    assert!(said[12..].iter().all(|text| *text == said[12]));
-    for number in 1..=11 {
+    assert_eq!((said[0].as_str(), said[NUMBERS].as_str()), ("accepted", "not a number of this library"));
+    assert!(said[NUMBERS..].iter().all(|text| *text == said[NUMBERS]));
+    for number in 1..NUMBERS as u32 {
         let refusal = fbr::Refusal::from_number(number).unwrap();
         assert_eq!(format!("{number}: {}", said[number as usize]), refusal.to_string());
     }
+}
+
+/// A number, its name in C and its name in Rust.
+type Named = (u32, String, String);
+
+/// The refusals in the order of the checks: the Rust crate's, with the names that the header's enum gives the numbers.
+fn refusals() -> Vec<Named> {
+    let header = text("include/fbr.h");
+    let list = header.split("/* The returned numbers").nth(1).expect("an enum").split("};").next().unwrap();
+    let pairs = list.lines().filter_map(|line| line.trim().trim_end_matches(',').split_once(" = "));
+    let pairs: Vec<(u32, &str)> = pairs.map(|(name, number)| (number.parse().unwrap(), name)).collect();
+    assert_eq!(pairs[0], (0, "FBR_ACCEPTED"));
+    assert_eq!(pairs.len(), fbr::Refusal::ALL.len() + 1);
+    let with_c = |(refusal, &(number, c)): (&fbr::Refusal, &(u32, &str))| {
+        assert_eq!(refusal.number(), number, "{c} beside {refusal:?}");
+        (number, c.to_string(), format!("{refusal:?}"))
+    };
+    fbr::Refusal::ALL.iter().zip(&pairs[1..]).map(with_c).collect()
+}
+
+/// The header's enum and table, the manual's table and the Rust crate have the numbers in the order of the checks, and
+/// 12 is checked right after 7.
+#[test]
+fn tables_in_the_order_of_the_checks() {
+    let named = refusals();
+    let order: Vec<u32> = named.iter().map(|one| one.0).collect();
+    assert_eq!(order, [1, 2, 3, 4, 5, 6, 7, 12, 8, 9, 10, 11]);
+
+    let header = text("include/fbr.h");
+    let table = header.split("    0  accepted\n").nth(1).expect("a table").split(" */").next().unwrap();
+    let rows = table.lines().filter_map(|line| line.get(3..7)?.trim().parse::<u32>().ok());
+    assert_eq!(rows.collect::<Vec<_>>(), order, "the header's table");
+
+    let manual = text("docs/MANUAL.md");
+    let cell = |cells: &[&str], at: usize| cells[at].trim().trim_matches('`').to_string();
+    let rows = manual.lines().map(|line| line.split('|').collect::<Vec<_>>()).filter(|cells| cells.len() == 7);
+    let rows = rows.filter(|cells| cells[2].starts_with(" `FBR_") && cells[1].trim() != "0");
+    let rows: Vec<Named> = rows.map(|c| (cell(&c, 1).parse().unwrap(), cell(&c, 2), cell(&c, 3))).collect();
+    assert_eq!(rows, named, "the manual's table");
+}
+
+/// The C program's batch and looks over a store of each length: 12 where it is longer, 7 where it is shorter.
+#[test]
+fn a_store_of_the_wrong_size_in_c() {
+    const M: usize = 262_144;
+    let lengths = [0, M - 1, M, M + 1, M + 4_096, 2 * M];
+    let said = header_says(&lengths.map(|length| format!("store {length}")));
+    let (short, long) = ("7 7 0 kept", "12 12 0 kept");
+    assert_eq!(said, [short, short, "0 0 1 changed", long, long, long]);
 }
 
 /// The classes of the header are those of the Rust crate, by the same texts.
@@ -264,5 +314,9 @@ fn one_version() {
     assert_eq!(parts.len(), 3);
     assert_eq!(number.parse::<u32>().unwrap(), parts[0] * 10_000 + parts[1] * 100 + parts[2]);
     assert!(text("bindings/rust/Cargo.toml").contains(&format!("\nversion = \"{version}\"\n")), "Cargo.toml");
-    assert!(text("docs/MANUAL.md").contains(&format!("\nVersion: {version}\n")), "fbr.pc in the manual");
+    let manual = text("docs/MANUAL.md");
+    assert!(manual.contains(&format!("\nVersion: {version}\n")), "fbr.pc in the manual");
+    assert!(manual.contains(&format!(" so {number} for {version}.\n")), "the sentence in the manual");
+    let changelog = text("CHANGELOG.md");
+    assert!(changelog.split("\n## ").nth(1).unwrap().starts_with(&format!("{version} (")), "the newest entry");
 }

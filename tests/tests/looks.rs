@@ -1,5 +1,5 @@
-//! Looks at every block beside the plain stack: the present bytes, the numbers 6, 7 and 9, and that nothing changes.
-use cache_tests::reference::beside::Beside;
+//! Looks at every block beside the plain stack: the present bytes, the numbers 6, 7, 12 and 9; and nothing changes.
+use cache_tests::reference::beside::{Beside, NUMBERS};
 use cache_tests::reference::directory::MAX_VALUE;
 use cache_tests::reference::histories;
 use cache_tests::reference::rng::Rng;
@@ -66,12 +66,9 @@ fn every_block_after_histories() {
             _ => histories::built(&mut rng, LIBRARY, s),
         };
         histories::go_on(&mut rng, &mut beside, 5, 60);
-        let lent = if rng.one_in(2) {
-            beside.stack.whole()
-        } else {
-            Lent { data: beside.data.len(), store: beside.store.len() }
-        };
-        let mut look = Look::of(&beside, lent);
+        let whole = beside.stack.whole();
+        let data = if rng.one_in(2) { whole.data } else { beside.data.len() };
+        let mut look = Look::of(&beside, Lent { data, ..whole });
         for block in 0..s.m {
             let (bytes, held) = present(&beside, block);
             look.check(&mut rng, block, Ok(bytes));
@@ -89,9 +86,9 @@ fn every_block_after_histories() {
 }
 
 #[test]
-fn numbers_in_the_order_6_7_9() {
-    let mut rng = Rng::announced("numbers_in_the_order_6_7_9", 102);
-    let mut seen = [0u32; 10];
+fn numbers_in_the_order_6_7_12_9() {
+    let mut rng = Rng::announced("numbers_in_the_order_6_7_12_9", 102);
+    let mut seen = [0u32; NUMBERS];
     for _ in 0..1_500 {
         let n = rng.within(1, 12);
         let s = histories::settings(&mut rng, n);
@@ -100,10 +97,15 @@ fn numbers_in_the_order_6_7_9() {
         let whole = beside.stack.whole();
         let shorter =
             |rng: &mut Rng, length: usize| if rng.one_in(2) { length - 1 } else { rng.below(length as u64) as usize };
-        let (short_data, short_store, unsound) = (rng.one_in(4), rng.one_in(4), rng.one_in(4));
+        let (short_data, unsound) = (rng.one_in(4), rng.one_in(4));
+        let (short_store, long_store) = rng.pick(&[(true, false), (false, true), (false, false), (false, false)]);
         let block = if rng.one_in(3) { s.m + rng.within(0, 3) } else { rng.within(0, s.m - 1) };
         let data = if short_data { shorter(&mut rng, whole.data) } else { whole.data };
-        let store = if short_store { shorter(&mut rng, whole.store) } else { whole.store };
+        let store = match (short_store, long_store) {
+            (true, _) => shorter(&mut rng, whole.store),
+            (_, true) => rng.pick(&[whole.store + 1, beside.store.len()]),
+            _ => whole.store,
+        };
         let mut look = Look::of(&beside, Lent { data, store });
         if unsound {
             look.dir = histories::unsound(&mut rng, &beside.dir, s);
@@ -112,6 +114,8 @@ fn numbers_in_the_order_6_7_9() {
             Err(6)
         } else if short_data || short_store {
             Err(7)
+        } else if long_store {
+            Err(12)
         } else if block >= s.m {
             Err(9)
         } else {
@@ -120,18 +124,22 @@ fn numbers_in_the_order_6_7_9() {
         look.check(&mut rng, block, expected);
         seen[expected.err().unwrap_or(0) as usize] += 1;
     }
-    println!("looks that returned 0 to 9: {seen:?}");
-    assert!([0, 6, 7, 9].into_iter().all(|number| seen[number] > 100));
+    println!("looks that returned 0 to 12: {seen:?}");
+    assert!([0, 6, 7, 12, 9].into_iter().all(|number| seen[number] > 100));
 }
 
-/// One byte of data or of store too few, and empty slices.
+/// Data and store on and beside their limits, and empty slices. Data may be longer; a store that is longer gets 12, at
+/// a block of M or more too, unless data is too short or the directory is not sound.
 #[test]
 fn lengths_on_their_limits() {
     let mut rng = Rng::announced("lengths_on_their_limits", 103);
-    let mut beside = histories::fresh(&mut rng, LIBRARY, BELT);
+    let (data, memory) = (histories::bytes(&mut rng, 64), histories::bytes(&mut rng, 1_024));
+    let mut beside = Beside::fresh(LIBRARY, BELT, vec![0; 70], data, memory);
     histories::go_on(&mut rng, &mut beside, 3, 20);
-    let cases = [(32, 512, 0), (31, 512, 7), (32, 511, 7), (0, 512, 7), (32, 0, 7), (0, 0, 7)];
-    for (data, store, number) in cases {
+    let exact = [(32, 512, 0), (31, 512, 7), (32, 511, 7), (0, 512, 7), (32, 0, 7), (0, 0, 7)];
+    let longer = [(33, 512, 0), (64, 512, 0), (32, 513, 12), (32, 519, 12), (32, 520, 12), (64, 1_024, 12)];
+    let cases = [&exact[..], &longer, &[(31, 513, 7), (0, 1_024, 7), (33, 511, 7)]].concat();
+    for &(data, store, number) in &cases {
         let mut look = Look::of(&beside, Lent { data, store });
         for block in [0, 63] {
             let expected = if number == 0 { Ok(present(&beside, block).0) } else { Err(number) };
@@ -139,8 +147,8 @@ fn lengths_on_their_limits() {
         }
         look.check(&mut rng, 64, Err(if number == 0 { 9 } else { number }));
     }
-    for length in 0..70 {
-        let mut look = Look::of(&beside, beside.stack.whole());
+    for (length, store) in (0..70).flat_map(|length| [(length, 512), (length, 1_024)]) {
+        let mut look = Look::of(&beside, Lent { data: 32, store });
         look.dir.truncate(length);
         look.check(&mut rng, 0, Err(6));
     }

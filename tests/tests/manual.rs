@@ -85,6 +85,7 @@ fn the_manual_shows_the_files() {
     assert_eq!(shown("c"), text("docs/manual/small.c"));
     assert_eq!(shown("rust"), text("bindings/rust/examples/small.rs"));
     assert_eq!(shown("rust occupancy"), text("bindings/rust/examples/occupancy.rs"));
+    assert!(text("docs/manual/map.c").contains(&shown("c map")));
 }
 
 #[test]
@@ -147,12 +148,28 @@ fn saving_in_c() {
     }
 }
 
+/// The spare store stays as it was made, and the right one has the block.
+#[test]
+fn mapping_in_c() {
+    let folder = folder("mapping_in_c");
+    for language in &LANGUAGES {
+        let program = compiled(language, "docs/manual/map.c", &folder);
+        let [spare, store] = ["spare", "store"].map(|name| folder.join(name));
+        let mut command = Command::new(program);
+        assert_eq!(printed(command.args([&spare, &store])), shown("text map"), "{}", language.compiler);
+        assert_eq!(fs::read(spare).unwrap(), [b'.'; 96 * 8]);
+        let expected = [&[b'.'; 80][..], b"bag 0042", &[b'.'; 424]].concat();
+        assert_eq!(fs::read(store).unwrap(), expected);
+    }
+}
+
 #[test]
 fn the_plain_lines() {
     needed("cc");
     let repository = repository(&folder("the_plain_lines"));
     assert_eq!(run(&shown("sh cc"), &repository), shown("text small"));
     assert_eq!(run(&shown("sh save"), &repository), shown("text save"));
+    assert_eq!(run(&shown("sh map"), &repository), shown("text map"));
 }
 
 #[test]

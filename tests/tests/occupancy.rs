@@ -256,7 +256,8 @@ struct Outcome {
 
 /// A batch over copies of a history's memory, with or without an occupancy before it.
 fn run(beside: &Beside, work: &[u32], asked: bool) -> Outcome {
-    let (mut dir, mut data, mut store) = (beside.dir.clone(), beside.data.clone(), beside.store.clone());
+    let (mut dir, mut data) = (beside.dir.clone(), beside.data.clone());
+    let mut store = beside.store[..beside.stack.whole().store].to_vec();
     let bytes = work.len() * beside.stack.settings.b as usize;
     let (mut answers, incoming, mut outgoing) = (vec![0; work.len()], vec![0xaa; bytes], vec![0; bytes]);
     if asked {

@@ -1,6 +1,6 @@
 //! The Rust wrapper in `bindings/rust` beside the plain stack: numbers, words, bytes, looks, totals, occupancy and
 //! settings, over lent memory and over a cache that owns its memory.
-use cache_tests::reference::beside::{self, Tested};
+use cache_tests::reference::beside::{self, Tested, NUMBERS};
 use cache_tests::reference::directory::{kind, value, word};
 use cache_tests::reference::histories;
 use cache_tests::reference::occupancy::{of_stack, Table, NONE};
@@ -74,7 +74,7 @@ fn small_settings(rng: &mut Rng) -> Settings {
 #[test]
 fn histories_through_the_wrapper() {
     let mut rng = Rng::announced("histories_through_the_wrapper", 121);
-    let (mut numbers, mut looks, mut answers) = ([0; 12], 0, 0);
+    let (mut numbers, mut looks, mut answers) = ([0; NUMBERS], 0, 0);
     for history in 0..600 {
         let s = small_settings(&mut rng);
         let mut beside = match history % 2 {
@@ -87,7 +87,9 @@ fn histories_through_the_wrapper() {
             assert_eq!(answer_word(Answer::from_word(word)), word, "{word:#x}");
             answers += 1;
         }
-        let memory = Memory { directory: &mut beside.dir, data: &mut beside.data, store: &mut beside.store };
+        refuses_a_longer_store(View { directory: &beside.dir, data: &beside.data, store: &beside.store });
+        let store = &mut beside.store[..beside.stack.whole().store];
+        let memory = Memory { directory: &mut beside.dir, data: &mut beside.data, store };
         let b = s.b as usize;
         for block in 0..s.m {
             let resident = beside.stack.residents.iter().find(|resident| resident.block == block);
@@ -103,30 +105,43 @@ fn histories_through_the_wrapper() {
         assert_eq!((memory.settings(), memory.totals()), (Ok(wrapped(s)), Ok(totals_of(&beside.stack))));
         assert_eq!(memory.occupancy().map(|table| figures(&table)), Ok(of_stack(&beside.stack)));
     }
-    println!("calls that returned 0 to 11: {numbers:?}; {looks} looks, {answers} answers");
-    assert!((0..=11).all(|number| numbers[number] > 10));
+    println!("calls that returned 0 to 12: {numbers:?}; {looks} looks, {answers} answers");
+    assert!(numbers.iter().all(|&times| times > 10));
+}
+
+/// Looks at a block below M and at one that is not, where the store and what lies behind it are lent.
+fn refuses_a_longer_store(view: View) {
+    for block in [0, u32::MAX] {
+        let mut out = [7; 300];
+        assert_eq!(view.look_number(block), Err(Refusal::LongStore));
+        assert_eq!(view.look_into(block, &mut out), Err(Refusal::LongStore));
+        assert_eq!((view.look(block), out), (Err(Refusal::LongStore), [7; 300]));
+    }
 }
 
 /// A cache that owns its memory beside the plain stack: the same batches to both, and everything compared after each.
 struct Pair {
     cache: Cache,
     stack: PlainStack,
-    numbers: [u64; 12],
+    numbers: [u64; NUMBERS],
 }
 
 impl Pair {
     fn fresh(rng: &mut Rng, s: Settings) -> Pair {
-        let length = (s.m * s.b) as usize + histories::more(rng, 40);
-        let store = histories::bytes(rng, length);
+        let store = histories::bytes(rng, (s.m * s.b) as usize);
         let cache = Cache::new(&wrapped(s), store.clone()).unwrap();
-        Pair { cache, stack: PlainStack::new(s, store), numbers: [0; 12] }
+        Pair { cache, stack: PlainStack::new(s, store), numbers: [0; NUMBERS] }
     }
 
     /// From a directory that no list of batches need lead to.
     fn built(rng: &mut Rng, s: Settings) -> Pair {
-        let built = histories::built(rng, WRAPPER, s);
+        let mut built = histories::built(rng, WRAPPER, s);
+        // a cache owns its store alone, without what lies behind
+        let length = built.stack.whole().store;
+        built.store.truncate(length);
+        built.stack.store.truncate(length);
         let parts = Parts { directory: built.dir, data: built.data, store: built.store };
-        Pair { cache: Cache::from_parts(parts).unwrap(), stack: built.stack, numbers: [0; 12] }
+        Pair { cache: Cache::from_parts(parts).unwrap(), stack: built.stack, numbers: [0; NUMBERS] }
     }
 
     fn run(&mut self, words: &[u32], incoming: &[u8]) {
@@ -176,14 +191,18 @@ impl Pair {
     fn refuses_spoilt_parts(&self, rng: &mut Rng) {
         let (good, whole) = (self.cache.clone().into_parts(), self.stack.whole());
         let directory = histories::unsound(rng, &good.directory, self.stack.settings);
-        let (mut data, mut store) = (good.clone(), good.clone());
+        let (mut data, mut store, mut longer) = (good.clone(), good.clone(), good.clone());
         data.data.truncate(whole.data - 1);
         store.store.truncate(whole.store - 1);
+        longer.store.resize(whole.store + histories::behind(rng, self.stack.settings), 7);
         for (spoilt, refusal) in [
             (Parts { directory: directory.clone(), ..good }, Refusal::Unsound),
-            (Parts { directory, ..data.clone() }, Refusal::Unsound),
+            (Parts { directory: directory.clone(), ..data.clone() }, Refusal::Unsound),
+            (Parts { directory, ..longer.clone() }, Refusal::Unsound),
+            (Parts { store: longer.store.clone(), ..data.clone() }, Refusal::ShortDataOrStore),
             (data, Refusal::ShortDataOrStore),
             (store, Refusal::ShortDataOrStore),
+            (longer, Refusal::LongStore),
         ] {
             let expected = NotTaken { refusal, parts: spoilt.clone() };
             assert!(Cache::from_parts(spoilt).err() == Some(expected), "parts spoilt for {refusal}");
@@ -219,7 +238,7 @@ fn words_and_bytes(rng: &mut Rng, s: Settings) -> (Vec<u32>, Vec<u8>) {
 #[test]
 fn histories_through_an_owned_cache() {
     let mut rng = Rng::announced("histories_through_an_owned_cache", 122);
-    let mut numbers = [0; 12];
+    let mut numbers = [0; NUMBERS];
     for history in 0..600 {
         let s = small_settings(&mut rng);
         let mut pair = if history % 2 == 0 { Pair::fresh(&mut rng, s) } else { Pair::built(&mut rng, s) };
@@ -250,6 +269,13 @@ fn a_new_cache_refuses_as_fresh_and_batches_do() {
         let shorter = &store[..rng.below(store.len() as u64) as usize];
         let refused = Cache::new(&wrapped(s), shorter.to_vec()).unwrap_err();
         assert_eq!((refused.refusal, &refused.parts.store[..]), (Refusal::ShortDataOrStore, shorter));
+        let behind = histories::behind(&mut rng, s);
+        let longer = [store, histories::bytes(&mut rng, behind)].concat();
+        let refused = Cache::new(&wrapped(s), longer.clone()).unwrap_err();
+        assert_eq!((refused.refusal, &refused.parts.store), (Refusal::LongStore, &longer));
+        // what is wrong with the settings is said first
+        let refused = Cache::new(&wrapped(illegal), longer.clone()).unwrap_err();
+        assert_eq!((refused.refusal.number(), &refused.parts.store), (number, &longer), "{illegal:?}");
     }
 }
 
@@ -310,7 +336,7 @@ fn directory_lengths_inside_and_outside_the_limits() {
 #[test]
 fn unknown_numbers_and_words() {
     assert_eq!(Refusal::from_number(0), None);
-    for number in 1..=11 {
+    for number in 1..NUMBERS as u32 {
         let known = Refusal::from_number(number).unwrap();
         assert!(Refusal::ALL.contains(&known) && known.number() == number);
     }

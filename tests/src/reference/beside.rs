@@ -33,16 +33,21 @@ pub struct Call {
     pub outgoing: Vec<u8>,
 }
 
+/// The numbers that calls return, 0 among them.
+pub const NUMBERS: usize = 13;
+
 /// Returned numbers, answers by kind and answers with counts halved, each counted.
 #[derive(Clone, Debug, Default, PartialEq, Eq)]
 pub struct Seen {
-    pub numbers: [u64; 12],
+    pub numbers: [u64; NUMBERS],
     pub answers: [u64; 7],
     pub halved: u64,
     pub written_out: u64,
     pub most_chains: u32,
     pub highest_victim: u32,
     pub looks: u64,
+    /// Looks that were lent more than the store.
+    pub longer_looks: u64,
 }
 
 impl Seen {
@@ -54,6 +59,7 @@ impl Seen {
         self.most_chains = self.most_chains.max(other.most_chains);
         self.highest_victim = self.highest_victim.max(other.highest_victim);
         self.looks += other.looks;
+        self.longer_looks += other.longer_looks;
     }
 
     fn answered(&mut self, w: u32) {
@@ -74,6 +80,7 @@ pub struct Beside {
     tested: Tested,
     pub dir: Vec<u32>,
     pub data: Vec<u8>,
+    /// The store's M × B bytes, and what lies behind them.
     pub store: Vec<u8>,
     pub stack: PlainStack,
     /// Whether the quadratic judge is asked too.
@@ -188,15 +195,24 @@ impl Beside {
     /// A look at every block gives the plain stack's present bytes and changes nothing.
     pub fn look_at_every_block(&mut self) {
         let before = (self.dir.clone(), self.data.clone(), self.store.clone());
-        let Settings { b, m, .. } = self.stack.settings;
+        let (Settings { b, m, .. }, whole) = (self.stack.settings, self.stack.whole());
         let mut present: Vec<&[u8]> = self.stack.store.chunks_exact(b as usize).take(m as usize).collect();
         self.stack.residents.iter().for_each(|held| present[held.block as usize] = &held.bytes);
         let mut out = vec![0; b as usize];
         for block in 0..m {
-            let length = (self.tested.look)(&mut self.dir, &mut self.data, &mut self.store, block, &mut out);
+            let store = &mut self.store[..whole.store];
+            let length = (self.tested.look)(&mut self.dir, &mut self.data, store, block, &mut out);
             assert_eq!(length, out.len(), "a look at block {block}: {:?}", self.stack.settings);
             assert!(out == present[block as usize], "the present bytes of block {block}: {:?}", self.stack.settings);
             self.seen.looks += 1;
+        }
+        // with what lies behind the store the part is empty
+        if self.store.len() > whole.store {
+            out.fill(0xa5);
+            let length = (self.tested.look)(&mut self.dir, &mut self.data, &mut self.store, m - 1, &mut out);
+            let kept = out.iter().all(|&byte| byte == 0xa5);
+            assert!(length == 0 && kept, "a look over a longer store: {:?}", self.stack.settings);
+            self.seen.longer_looks += 1;
         }
         assert!(self.dir == before.0 && self.data == before.1 && self.store == before.2, "a look changed something");
     }

@@ -14,7 +14,7 @@ mod links;
 #[cfg(test)]
 mod tests;
 
-/// Runs a batch and returns 0, or changes nothing and returns 6 to 11.
+/// Runs a batch and returns 0, or changes nothing and returns 6 to 12.
 pub fn batch(
     dir: &mut [u32], data: &mut [u8], store: &mut [u8], work: &[u32], incoming: &[u8], answers: &mut [u32],
     outgoing: &mut [u8],
@@ -58,7 +58,7 @@ fn run<const LOOP: bool>(
     0
 }
 
-/// The part that holds the block's present bytes, or 6, 7 or 9.
+/// The part that holds the block's present bytes, or 6, 7, 12 or 9.
 pub fn look<'a>(dir: &[u32], data: &'a [u8], store: &'a [u8], block: u32) -> Result<&'a [u8], u32> {
     let s = settings_if_whole(dir, data.len(), store.len())?;
     if block >= s.m {
@@ -71,7 +71,7 @@ pub fn look<'a>(dir: &[u32], data: &'a [u8], store: &'a [u8], block: u32) -> Res
     })
 }
 
-/// The settings of a sound directory with data and store long enough, or 6 or 7.
+/// The settings of a sound directory with data long enough and a store of the right size, or 6, 7 or 12.
 fn settings_if_whole(dir: &[u32], data: usize, store: usize) -> Result<Settings, u32> {
     if !fast_judge::sound(dir) {
         return Err(6);
@@ -80,6 +80,9 @@ fn settings_if_whole(dir: &[u32], data: usize, store: usize) -> Result<Settings,
     let b = s.b as usize;
     if data < s.n as usize * b || store < s.m as usize * b {
         return Err(7);
+    }
+    if store > s.m as usize * b {
+        return Err(12);
     }
     Ok(s)
 }

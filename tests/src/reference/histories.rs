@@ -43,8 +43,19 @@ pub fn more(rng: &mut Rng, most: u32) -> usize {
     }
 }
 
+/// How much lies behind a store: a byte, a block, as much again in small ones, or some bytes.
+pub fn behind(rng: &mut Rng, s: Settings) -> usize {
+    match rng.below(4) {
+        0 => 1,
+        1 => s.b as usize,
+        2 => (s.m * s.b).min(2_000) as usize,
+        _ => rng.within(1, 40) as usize,
+    }
+}
+
+/// There is always something behind the store, so that a call can be lent too much of it.
 fn data_and_store(rng: &mut Rng, s: Settings) -> (Vec<u8>, Vec<u8>) {
-    let (data, store) = ((s.n * s.b) as usize + more(rng, 40), (s.m * s.b) as usize + more(rng, 40));
+    let (data, store) = ((s.n * s.b) as usize + more(rng, 40), (s.m * s.b) as usize + behind(rng, s));
     (bytes(rng, data), bytes(rng, store))
 }
 
@@ -111,13 +122,13 @@ pub fn work_words(rng: &mut Rng, s: Settings, length: usize) -> Vec<u32> {
     (0..length).map(|_| one(rng)).collect()
 }
 
-/// A call that fits these words, with exact or longer buffers.
+/// A call that fits these words, with exact or longer data and buffers.
 pub fn call_of(rng: &mut Rng, beside: &Beside, work: Vec<u32>) -> Call {
     let b = beside.stack.settings.b as usize;
     let of_kind = |k: u32| work.iter().filter(|&&w| kind(w) == k).count() * b;
     let mut lent = beside.stack.whole();
     if rng.one_in(2) {
-        (lent.data, lent.store) = (beside.data.len(), beside.store.len());
+        lent.data = beside.data.len();
     }
     let (answers, incoming) = (work.len() + more(rng, 9), of_kind(work::WRITE) + more(rng, 40));
     let outgoing = of_kind(work::READ) + more(rng, 40);
@@ -125,20 +136,21 @@ pub fn call_of(rng: &mut Rng, beside: &Beside, work: Vec<u32>) -> Call {
     Call { lent, work, incoming, answers, outgoing }
 }
 
-/// Spoils one respect of a call, so that 7 to 10 are due, alone or together.
+/// Spoils one respect of a call, so that 7, 12, 8, 9 or 10 is due, alone or together.
 pub fn spoil(rng: &mut Rng, beside: &Beside, call: &mut Call) {
     let (s, whole) = (beside.stack.settings, beside.stack.whole());
     let shorter = |rng: &mut Rng, length: usize| length - (1 + rng.below(3) as usize).min(length);
-    match rng.below(7) {
+    match rng.below(8) {
         0 => call.lent.data = shorter(rng, whole.data),
         1 => call.lent.store = shorter(rng, whole.store),
-        2 => {
+        2 => call.lent.store = rng.pick(&[whole.store + 1, beside.store.len()]),
+        3 => {
             let purge = word(work::PURGE, 0);
             call.work.resize(work::MOST_WORDS + 1 + more(rng, 3), purge);
             let wrong = rng.one_in(2);
             call.answers.resize(if wrong { 0 } else { 1_100 }, 7);
         }
-        3 => {
+        4 => {
             let high = rng.pick(&[s.m, s.m + 1, MAX_VALUE]);
             let wrong = match rng.below(4) {
                 0 => word(rng.pick(&[0, 5, 6, 7, 8, 15]), 0),
@@ -151,8 +163,8 @@ pub fn spoil(rng: &mut Rng, beside: &Beside, call: &mut Call) {
                 call.answers.push(7);
             }
         }
-        4 => call.answers.truncate(shorter(rng, call.work.len())),
-        5 => {
+        5 => call.answers.truncate(shorter(rng, call.work.len())),
+        6 => {
             let length = call.work.iter().filter(|&&w| kind(w) == work::WRITE).count() * s.b as usize;
             call.incoming.truncate(shorter(rng, length));
         }

@@ -47,7 +47,7 @@ pub struct PlainStack {
     pub settings: Settings,
     /// Most recent first.
     pub residents: Vec<Resident>,
-    /// The starting store, whole; its first M × B bytes are the blocks.
+    /// The memory that the store is at the front of: its first M × B bytes are the blocks, and the rest stays.
     pub store: Vec<u8>,
     pub reads: u64,
     pub writes: u64,
@@ -55,7 +55,7 @@ pub struct PlainStack {
     pub outs: u64,
 }
 
-/// How many bytes of data and store a batch is lent.
+/// How many bytes of data and store a call is lent, from their first byte.
 #[derive(Clone, Copy, Debug, PartialEq, Eq)]
 pub struct Lent {
     pub data: usize,
@@ -67,13 +67,13 @@ impl PlainStack {
         PlainStack { settings, residents: Vec::new(), store, reads: 0, writes: 0, ins: 0, outs: 0 }
     }
 
-    /// What a batch needs at least.
+    /// What a batch needs: of data at least, of the store exactly.
     pub fn whole(&self) -> Lent {
         let s = self.settings;
         Lent { data: s.n as usize * s.b as usize, store: s.m as usize * s.b as usize }
     }
 
-    /// Runs a batch and returns 0, or changes nothing and returns 7 to 11.
+    /// Runs a batch and returns 0, or changes nothing and returns 7 to 12.
     pub fn batch(
         &mut self, lent: Lent, work: &[u32], incoming: &[u8], answers: &mut [u32], outgoing: &mut [u8],
     ) -> u32 {
@@ -96,13 +96,15 @@ impl PlainStack {
         0
     }
 
-    /// The first number of the table, from 7 to 11, whose condition is met; else 0.
+    /// The first number of the table, 7, 12 or 8 to 11, whose condition is met; else 0.
     fn refusal(&self, lent: Lent, work: &[u32], incoming: usize, answers: usize, outgoing: usize) -> u32 {
         let of_kind = |k: u32| work.iter().filter(|&&w| kind(w) == k).count();
         let b = self.settings.b as usize;
         let whole = self.whole();
         if lent.data < whole.data || lent.store < whole.store {
             7
+        } else if lent.store > whole.store {
+            12
         } else if work.len() > work::MOST_WORDS {
             8
         } else if !work.iter().all(|&w| self.well_formed(w)) {

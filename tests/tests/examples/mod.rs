@@ -87,7 +87,8 @@ fn g_and_h() {
     assert!((belt.dir, belt.data, belt.store) == before);
 }
 
-/// Example h past fresh: purges have put the unused list out of its rising order, and an empty batch leaves it so, however much it is lent.
+/// Example h past fresh: purges have put the unused list out of its rising order, and an empty batch leaves it so,
+/// however long the data and the buffers that it is lent.
 #[test]
 fn an_empty_batch_changes_nothing() {
     let mut belt = start(BELT, 209);
@@ -96,7 +97,8 @@ fn an_empty_batch_changes_nothing() {
     run(&mut belt, &words);
     let before = (belt.dir.clone(), belt.data.clone(), belt.store.clone());
     let (mut answers, mut outgoing) = ([7; 3], [9; 16]);
-    let number = batch(&mut belt.dir, &mut belt.data, &mut belt.store, &[], &[5; 8], &mut answers, &mut outgoing);
+    let store = &mut belt.store[..512];
+    let number = batch(&mut belt.dir, &mut belt.data, store, &[], &[5; 8], &mut answers, &mut outgoing);
     assert_eq!((number, answers, outgoing), (0, [7; 3], [9; 16]));
     assert!((belt.dir, belt.data, belt.store) == before);
 }
@@ -179,6 +181,8 @@ fn numbers_in_the_order_of_the_table() {
     assert_eq!(number(call(Lent { data: 31, ..whole }, many.clone(), 0, 0, 0)), 7);
     assert_eq!(number(call(Lent { store: 511, ..whole }, many.clone(), 0, 0, 0)), 7);
     assert_eq!(number(call(Lent { data: 0, store: 0 }, vec![], 0, 0, 0)), 7);
+    assert_eq!(number(call(Lent { data: 31, store: 513 }, many.clone(), 0, 0, 0)), 7);
+    assert_eq!(number(call(Lent { store: 513, ..whole }, many.clone(), 0, 0, 0)), 12);
     assert_eq!(number(call(whole, many, 0, 0, 0)), 8);
     let wrong = [word(0, 1), word(5, 1), word(15, 1), word(1, 64), word(2, 64), word(3, 64), word(4, 1)];
     for w in wrong {
@@ -190,7 +194,9 @@ fn numbers_in_the_order_of_the_table() {
     assert_eq!(number(call(whole, vec![write], 7, 1, 0)), 10);
     assert_eq!(number(call(whole, vec![read, write], 8, 2, 8)), 0);
     let damaged = [&belt.dir[..7], &[0], &belt.dir[8..]].concat();
-    belt.call_over(damaged, &call(Lent { data: 0, store: 0 }, vec![0; 1_025], 0, 0, 0));
+    for store in [0, 512, 513] {
+        belt.call_over(damaged.clone(), &call(Lent { data: 0, store }, vec![0; 1_025], 0, 0, 0));
+    }
     println!("numbers returned: {:?}", belt.seen.numbers);
-    assert_eq!(belt.seen.numbers, [1, 0, 0, 0, 0, 0, 1, 3, 1, 14, 3, 0]);
+    assert_eq!(belt.seen.numbers, [1, 0, 0, 0, 0, 0, 3, 4, 1, 14, 3, 0, 1]);
 }

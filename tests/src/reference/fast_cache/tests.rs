@@ -42,11 +42,12 @@ fn random_histories() {
         };
         histories::go_on(&mut rng, &mut beside, 8, 50);
         seen.add(&beside.seen);
-        assert_eq!(look(&beside.dir, &beside.data, &beside.store, s.m), Err(9));
+        assert_eq!(look(&beside.dir, &beside.data, &beside.store[..beside.stack.whole().store], s.m), Err(9));
+        assert_eq!(look(&beside.dir, &beside.data, &beside.store, s.m), Err(12));
         assert_eq!(look(&beside.dir, &[], &beside.store, s.m), Err(7));
         assert_eq!(look(&beside.dir[1..], &[], &beside.store, s.m), Err(6));
     }
     println!("{seen:?}");
     assert!(seen.answers[1..].iter().all(|&times| times > 500) && seen.halved > 500);
-    assert!((0..=11).all(|number| seen.numbers[number] > 20), "{seen:?}");
+    assert!(seen.numbers.iter().all(|&times| times > 20), "{seen:?}");
 }

@@ -140,7 +140,7 @@ fn a_count_of_65_535_stays() {
 }
 
 #[test]
-fn numbers_7_to_11_on_and_beside_their_limits() {
+fn numbers_7_to_12_on_and_beside_their_limits() {
     let mut belt = start(BELT);
     let whole = belt.whole();
     assert_eq!(whole, Lent { data: 32, store: 512 });
@@ -153,6 +153,11 @@ fn numbers_7_to_11_on_and_beside_their_limits() {
     };
     assert_eq!(number(Lent { data: 31, ..whole }, &[], 0, 0, 0), 7);
     assert_eq!(number(Lent { store: 511, ..whole }, &vec![0; 1_025], 0, 0, 0), 7);
+    assert_eq!(number(Lent { data: 31, store: 513 }, &[], 0, 0, 0), 7);
+    for store in [513, 520, 1_024, usize::MAX] {
+        assert_eq!(number(Lent { store, ..whole }, &[], 0, 0, 0), 12, "{store} bytes");
+        assert_eq!(number(Lent { store, ..whole }, &vec![0; 1_025], 0, 0, 0), 12, "{store} bytes");
+    }
     assert_eq!(number(whole, &vec![0; 1_025], 0, 0, 0), 8);
     for wrong in [word(0, 1), word(5, 1), word(15, 1), word(1, 64), word(2, 64), word(3, 64), word(4, 1)] {
         assert_eq!(number(whole, &[wrong], 0, 0, 0), 9, "{wrong:#x}");
@@ -164,6 +169,8 @@ fn numbers_7_to_11_on_and_beside_their_limits() {
 
     belt.reads = MOST_TOTAL - 1;
     let (mut answers, purge) = ([0; 2], word(work::PURGE, 0));
+    assert_eq!(belt.batch(Lent { store: 513, ..whole }, &[purge; 2], &[], &mut answers, &mut []), 12);
+    assert_eq!(belt.batch(Lent { data: 33, ..whole }, &[], &[], &mut answers, &mut []), 0);
     assert_eq!(belt.batch(whole, &[purge; 2], &[], &mut answers, &mut []), 11);
     assert_eq!(belt.batch(whole, &[purge], &[], &mut answers, &mut []), 0);
 }
