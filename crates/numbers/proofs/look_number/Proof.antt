@@ -1,6 +1,9 @@
 use Rattle.numbers.proofs.Laws.{legal-number, look-6, look-memory, look-9, look-0}
 use borrow.Author.Tests.{not-true, not-false}
-use mathlib.Core.Path.{sym, _∙_}
+use mathlib.Core.Path.{_≡_, sym, _∙_}
+use lib.ListN.{length}
+use Rattle.basics.specs.Basics.{first}
+use Rattle.stack.specs.Batch.{memoryTests}
 use borrow.Author.Needs.{needs}
 use Rattle.numbers.proofs.look_number.Statement.{statement}
 use Rattle.numbers.proofs.look_number.Tie as tie
@@ -28,8 +31,10 @@ returns-2 c =
     let m = c .before in
     let k = m .before in
     let ok = sym (k .before .before .sound .ensures) ∙ not-false _ (k .before .if1 .left) in
-    look-memory _ _ _ _ ok _ (k .settings-in .ensures) (m .memory-number .ensures)
-    (c .if2 .taken)
+    let a = k .before .before .before .before .before .before .args in
+    let is : m .memory-number .result ≡ first (memoryTests (k .settings-in .result) (length (a .bytes .now)) (length (a .store .now))) =
+    m .memory-number .ensures in
+    look-memory _ _ _ _ ok _ (k .settings-in .ensures) is (c .if2 .taken)
 
 returns-3 : tie.Need-returns-3
 returns-3 c =

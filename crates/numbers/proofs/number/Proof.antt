@@ -1,6 +1,10 @@
 use Rattle.numbers.proofs.Laws.{legal-number, references-few, number-6, number-on}
 use borrow.Author.Tests.{not-true, not-false}
-use mathlib.Core.Path.{sym, _∙_}
+use mathlib.Core.Path.{_≡_, sym, _∙_}
+use lib.ListN.{length}
+use Rattle.basics.specs.Basics.{first}
+use Rattle.stack.specs.declared.Lengths.{Lengths}
+use Rattle.stack.specs.Batch.{batchTests}
 use borrow.Author.Needs.{needs}
 use Rattle.numbers.proofs.number.Statement.{statement}
 use Rattle.numbers.proofs.number.Tie as tie
@@ -27,7 +31,22 @@ batch-number-requires : tie.Need-batch-number-requires
 batch-number-requires c κs = let k = c .before .before in let h = sym (k .before .sound .ensures) ∙ not-false _ (k .if1 .left) in (legal-number _ _ h (c .before .settings-in .ensures), references-few _ _ (c .references .ensures))
 
 returns-2 : tie.Need-returns-2
-returns-2 c = let k = c .before .before .before in let h = sym (k .before .sound .ensures) ∙ not-false _ (k .if1 .left) in number-on _ _ _ h _ (c .before .before .settings-in .ensures) _ (c .before .references .ensures) _ (c .batch-number .ensures)
+returns-2 c =
+    let k = c .before .before .before in
+    let h = sym (k .before .sound .ensures) ∙ not-false _ (k .if1 .left) in
+    let a = k .before .before .before .before .before .before .before .before .before .args in
+    let lent : Lengths =
+    record {
+      bytes = length (a .bytes .now);
+      store = length (a .store .now);
+      incoming = length (a .incoming .now);
+      answers = length (a .answers .now);
+      outgoing = length (a .outgoing .now);
+    } in
+    let s = c .before .before .settings-in .result in
+    let is : c .batch-number .result ≡ first (batchTests s (c .before .references .result) (a .work .now) lent) =
+    c .batch-number .ensures in
+    number-on _ _ _ h _ (c .before .before .settings-in .ensures) _ (c .before .references .ensures) _ is
 
 pub number-spec : {M : Type 1} → statement M
 number-spec =
