@@ -2,7 +2,7 @@ ghost use mathlib.Core.Path.{_≡_};
 ghost use Prim.Native.Nat.{_+_, _-_, _*_, _<_};
 ghost use lib.ListN.{length};
 ghost use Rattle.check_model.specs.Masks.{Masks};
-ghost use Rattle.check_model.specs.Tests.{absent, bucketsFrom, chainTest, cursor, endTest, endsOk, entryWord, firstOf, headOf, lastAt, listTest, listed, noted, tailOf};
+ghost use Rattle.check_model.specs.Tests.{Lent, Tested, bucketsFrom, chainTest, cursor, endTest, endsOk, entryWord, firstOf, headOf, lastAt, leftAfter, listTest, noSecond, noted, tailOf};
 
 fn head_of(d: &[u32], i: u32) -> u32
     ensures { λ r. ⌜ r ≡ headOf (now (d .entry)) i ⌝ }
@@ -89,33 +89,48 @@ pub fn ends_ok(d: &[u32], entries: &[u32], cmax: u32, last: &[u32; 65]) -> bool
     true
 }
 
-// The entries from e on are among n, and none has that block.
-fn absent_from(entries: &[u32], n: u32, block: u32, budget: u32, first: u32) -> bool
-    requires { ⌜ 9 * n + 8 < length (now entries) ⌝ }
-    ensures { λ r. ⌜ r ≡ absent (entryWord (now (entries .entry))) n block budget first ⌝ }
+// None of the first `ahead` entries that the bucket lists, all within the slice, has that block.
+fn no_second_resident(
+    d: &[u32],
+    entries: &[u32],
+    start: u32,
+    bucket: u32,
+    block: u32,
+    ahead: u32,
+) -> bool
+    requires { ⌜ Lent (now entries) ahead (firstOf (now d) start bucket) ⌝ }
+    ensures { λ r. ⌜ r ≡ noSecond (entryWord (now (entries .entry))) block ahead (firstOf (now (d .entry)) start bucket) ⌝ }
 {
-    let mut e = first;
-    let mut left = budget;
-    while left > 0 {
-        if e == 0 {
-            return true;
-        }
-        if e > n {
-            return false;
-        }
+    // so that a list's first resident costs no look at the bucket again
+    if ahead == 0 {
+        return true;
+    }
+    let mut e = words::get(d, start as usize + bucket as usize);
+    let mut more = ahead;
+    while more > 0 {
         if check_stack::field(entries, layout::BLOCK, e) == block {
             return false;
         }
         e = check_stack::field(entries, layout::NEXT_SYNONYM, e);
-        left -= 1;
+        more -= 1;
     }
     true
 }
 
-// Entry e may stand in bucket b, and no later one has its block.
-fn list_test(entries: &[u32], n: u32, nb: u32, b: u32, budget: u32, e: u32) -> bool
-    requires { ⌜ (9 * n + 8 < length (now entries)) × (0 < nb) × Masks (nb - 1) nb ⌝ }
-    ensures { λ r. ⌜ r ≡ listTest (entryWord (now (entries .entry))) n nb b budget e ⌝ }
+// Entry e, listed in bucket b behind `ahead` others, is in the bucket of its block, and none of them has that block.
+fn list_test(
+    d: &[u32],
+    entries: &[u32],
+    start: u32,
+    n: u32,
+    nb: u32,
+    b: u32,
+    ahead: u32,
+    e: u32,
+) -> bool
+    requires { ⌜ (9 * n + 8 < length (now entries)) × (0 < nb) × Masks (nb - 1) nb
+        × Tested (entryWord (now entries)) (firstOf (now d) start) n nb b ahead ⌝ }
+    ensures { λ r. ⌜ r ≡ listTest (entryWord (now (entries .entry))) (firstOf (now (d .entry)) start) n nb b ahead e ⌝ }
 {
     if e > n {
         return false;
@@ -124,30 +139,25 @@ fn list_test(entries: &[u32], n: u32, nb: u32, b: u32, budget: u32, e: u32) -> b
         return false;
     }
     let block = check_stack::field(entries, layout::BLOCK, e);
-    if fnv::hash(block) & (nb - 1) == b {
-        return absent_from(
-            entries,
-            n,
-            block,
-            budget,
-            check_stack::field(entries, layout::NEXT_SYNONYM, e),
-        );
+    let own = fnv::hash(block) & (nb - 1);
+    if own != b {
+        return false;
     }
-    false
+    no_second_resident(d, entries, start, own, block, ahead)
 }
 
 // What is left of the budget after bucket b, and 1; 0 where its list is wrong.
-fn bucket(entries: &[u32], n: u32, nb: u32, b: u32, budget: u32, first: u32) -> u32
+fn bucket(d: &[u32], entries: &[u32], start: u32, n: u32, nb: u32, b: u32, budget: u32) -> u32
     requires { ⌜ (9 * n + 8 < length (now entries)) × (0 < nb) × Masks (nb - 1) nb × (budget < 4294967295) ⌝ }
-    ensures { λ r. ⌜ r ≡ listed (entryWord (now (entries .entry))) n nb b budget first ⌝ }
+    ensures { λ r. ⌜ r ≡ leftAfter (entryWord (now (entries .entry))) (firstOf (now (d .entry)) start) n nb b budget ⌝ }
 {
-    let mut e = first;
+    let mut e = words::get(d, start as usize + b as usize);
     let mut left = budget;
     while left > 0 {
         if e == 0 {
             return left + 1;
         }
-        if !list_test(entries, n, nb, b, left - 1, e) {
+        if !list_test(d, entries, start, n, nb, b, budget - left, e) {
             return 0;
         }
         e = check_stack::field(entries, layout::NEXT_SYNONYM, e);
@@ -167,8 +177,7 @@ pub fn buckets_ok(d: &[u32], entries: &[u32], start: u32, n: u32, nb: u32, count
     let mut b = 0;
     let mut left = count;
     while b < nb {
-        let first = words::get(d, start as usize + b as usize);
-        let k = bucket(entries, n, nb, b, left, first);
+        let k = bucket(d, entries, start, n, nb, b, left);
         if k == 0 {
             return false;
         }

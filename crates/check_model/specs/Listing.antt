@@ -62,6 +62,10 @@ module _ (w : List ℕ) where
   canon b ys r o l = along-run w 8 (suc (val w CACHE-BLOCKS)) ys (firsts b) r o (omega arith)
 
   module _ (l : Lists w) (c : All (λ e. 1 ≤ fw w COUNT e) (l .xs)) where
+    -- an entry with a count is a resident's
+    pub counted-resident : (x : ℕ) → ¬ (x ≡ 0) → x ≤ val w CACHE-BLOCKS → 1 ≤ fw w COUNT x → In x (l .xs)
+    counted-resident x z low count o = everywhere w l c x z low (off-join x (l .xs) (l .us) o (apart-off w x (l .us) count (l .blank)))
+
     own-is : (j : ℕ) → those (λ e. eqb (bucketOf (settingsIn w) (field w BLOCK e)) j) (order w) ≡ own place nb below lists j (l .xs)
     own-is j = rw (order-is w l) (those-sift w (λ e. eqb (bucketOf (settingsIn w) (field w BLOCK e)) j) (λ x. eqb (place x) j) (l .xs) (l .some) (place-is j))
 
@@ -83,7 +87,7 @@ module _ (w : List ℕ) where
       within : (j : ℕ) → j < nb → Inside (lists j) (l .xs)
       within j u =
           all-some (Entry (fw w) (val w CACHE-BLOCKS) nb j) (λ x. In x (l .xs)) (lists j) (g j u .some)
-          (λ x z e o. everywhere w l c x z (e .low) (off-join x (l .xs) (l .us) o (apart-off w x (l .us) (e .count) (l .blank)))) (g j u .each)
+          (λ x z e. counted-resident x z (e .low) (e .count)) (g j u .each)
 
       many : length (joins place nb below lists nb 0) ≡ length (l .xs)
       many = ap length (sym (joined-is nb 0)) ∙ full ∙ sym (l .many)

@@ -12,7 +12,7 @@ use lib.Dec.{eqb}
 use borrow.Author.Tests.{lt-ltb, le-ltb}
 use Rattle.basics.specs.Basics.{pick}
 use Rattle.check_model.specs.Turns.{turns}
-use Rattle.check_model.specs.Bools.{to-T}
+use Rattle.check_model.specs.Bools.{to-T, pick-pick}
 use Rattle.check_model.specs.Tests.{kindAt, kindTest, kindsFrom, kindsOk}
 use Rattle.check_model.specs.Fields.{less}
 use Rattle.check_model.specs.Kinds.{entry-kind}
@@ -48,11 +48,7 @@ module _ (w : List ℕ) (base : ℕ) where
   kinds-split (suc a) b i =
       let e : suc a + b ≡ suc (a + b) = omega arith in
       let q : i + 1 + a ≡ i + suc a = omega arith in
-      rw (e, ← q) (go (kindTest w base i) (kindsFrom w base a (i + 1)) (kindsFrom w base b (i + 1 + a)) _ (kinds-split a b (i + 1)))
-    where
-      go : (t x y z : Bool) → z ≡ pick x y false → pick t z false ≡ pick (pick t x false) y false
-      go true x y z h = h
-      go false x y z h = refl
+      rw (e, ← q) (pick-pick (kindTest w base i) (kindsFrom w base a (i + 1)) (kindsFrom w base b (i + 1 + a)) _ (kinds-split a b (i + 1)))
 
   pub kinds-short : (k i : ℕ) → i ≤ length w → length w < i + k → kindsFrom w base k i ≡ false
   unfolding turns

@@ -1,8 +1,9 @@
 -- The tests of the check, over the fields of the entries: `f j e` is word j of entry e.
-use Prim.Native.Nat.{ℕ, zero, suc, _+_, _*_, _/_, _%_, _-_}
-use mathlib.Core.Bool.{Bool, true, false}
+use Prim.Native.Nat.{ℕ, zero, suc, _+_, _*_, _/_, _%_, _-_, _<_}
+use mathlib.Core.Path.{_≡_}
+use mathlib.Core.Bool.{Bool, true, false, not}
 use mathlib.Core.List.{List}
-use lib.ListN.{getD, set, replicate}
+use lib.ListN.{getD, length, set, replicate}
 use lib.Dec.{ltb, eqb}
 use Rattle.basics.specs.Basics.{pick}
 use Rattle.words.specs.Words.{val}
@@ -140,29 +141,45 @@ chainsOk f heads tails cmax r head = chainsFrom f heads tails cmax r head (repli
 
 -- buckets
 
--- the entries from e on, within so many links, are among n, and none has that block
-unfoldable pub absent : (ℕ → ℕ → ℕ) → ℕ → ℕ → ℕ → ℕ → Bool
-absent f n block zero e = true
-absent f n block (suc k) e =
-    pick (eqb e 0) true (pick (ltb n e) false (pick (eqb (f BLOCK e) block) false (absent f n block k (f NEXT-SYNONYM e))))
+-- the k entries from e on are lent with all their words
+abbrev pub Lent : List ℕ → ℕ → ℕ → Type 0
+Lent x k e = (i : ℕ) → i < k → 9 * moved (entryWord x NEXT-SYNONYM) i e + 8 < length x
 
-unfoldable pub listTest : (ℕ → ℕ → ℕ) → ℕ → ℕ → ℕ → ℕ → ℕ → Bool
-listTest f n nb b k e =
-    pick (ltb n e) false (pick (eqb (f COUNT e) 0) false
-    (pick (eqb (fnv (f BLOCK e) % nb) b) (absent f n (f BLOCK e) k (f NEXT-SYNONYM e)) false))
+-- none of the k entries from e on has that block
+abbrev pub noSecond : (ℕ → ℕ → ℕ) → ℕ → ℕ → ℕ → Bool
+noSecond f block k e = turns (λ e. not (eqb (f BLOCK e) block)) (f NEXT-SYNONYM) (λ _. true) k e
+
+-- entry e, listed in bucket b behind `ahead` others; the bucket of its block says where it has to be listed and where a second resident would be
+unfoldable pub listTest : (ℕ → ℕ → ℕ) → (ℕ → ℕ) → ℕ → ℕ → ℕ → ℕ → ℕ → Bool
+listTest f firsts n nb b ahead e =
+    let own = fnv (f BLOCK e) % nb in
+    pick (ltb n e) false (pick (eqb (f COUNT e) 0) false (pick (eqb own b) (noSecond f (f BLOCK e) ahead (firsts own)) false))
+
+-- the entry that bucket b lists behind i others
+abbrev pub nthListed : (ℕ → ℕ → ℕ) → (ℕ → ℕ) → ℕ → ℕ → ℕ
+nthListed f firsts b i = moved (f NEXT-SYNONYM) i (firsts b)
+
+-- the first `ahead` entries of bucket b's list passed that test
+abbrev pub Tested : (ℕ → ℕ → ℕ) → (ℕ → ℕ) → ℕ → ℕ → ℕ → ℕ → Type 0
+Tested f firsts n nb b ahead =
+    (i : ℕ) → i < ahead → (¬ (nthListed f firsts b i ≡ 0)) × (listTest f firsts n nb b i (nthListed f firsts b i) ≡ true)
 
 -- what is left of a budget after a bucket's list, and 1; 0 where the list is wrong
-unfoldable pub listed : (ℕ → ℕ → ℕ) → ℕ → ℕ → ℕ → ℕ → ℕ → ℕ
-listed f n nb b zero e = pick (eqb e 0) 1 0
-listed f n nb b (suc k) e =
-    pick (eqb e 0) (suc k + 1) (pick (listTest f n nb b k e) (listed f n nb b k (f NEXT-SYNONYM e)) 0)
+unfoldable pub listed : (ℕ → ℕ → ℕ) → (ℕ → ℕ) → ℕ → ℕ → ℕ → ℕ → ℕ → ℕ → ℕ
+listed f firsts n nb b ahead zero e = pick (eqb e 0) 1 0
+listed f firsts n nb b ahead (suc k) e =
+    pick (eqb e 0) (suc k + 1)
+    (pick (listTest f firsts n nb b ahead e) (listed f firsts n nb b (suc ahead) k (f NEXT-SYNONYM e)) 0)
 
--- buckets b, b + 1, .. : k of them; what is left at the end, and 1, or 0
+-- the same from the bucket's first entry
+abbrev pub leftAfter : (ℕ → ℕ → ℕ) → (ℕ → ℕ) → ℕ → ℕ → ℕ → ℕ → ℕ
+leftAfter f firsts n nb b budget = listed f firsts n nb b 0 budget (firsts b)
+
+-- buckets b, b + 1, .. : the lists of k of them are right, and nothing is left of the budget
 unfoldable pub bucketsFrom : (ℕ → ℕ → ℕ) → (ℕ → ℕ) → ℕ → ℕ → ℕ → ℕ → ℕ → Bool
 bucketsFrom f firsts n nb zero b left = eqb left 0
 bucketsFrom f firsts n nb (suc k) b left =
-    pick (eqb (listed f n nb b left (firsts b)) 0) false
-    (bucketsFrom f firsts n nb k (b + 1) (listed f n nb b left (firsts b) - 1))
+    pick (eqb (leftAfter f firsts n nb b left) 0) false (bucketsFrom f firsts n nb k (b + 1) (leftAfter f firsts n nb b left - 1))
 
 unfoldable pub firstOf : List ℕ → ℕ → ℕ → ℕ
 firstOf w start b = val w (start + b)

@@ -15,7 +15,7 @@ use Rattle.layout.specs.Addresses.{RESIDENTS, SUM, HEAD, TAIL, NEW-BOUNDARY, OL
 use Rattle.check_model.specs.Turns.{turns, moved}
 use Rattle.check_model.specs.Fields.{less}
 use Rattle.check_model.specs.LoopLaws.{link-low}
-use Rattle.check_model.specs.Bools.{is-true, to-T, same-truth, pick-yes, yes-pick}
+use Rattle.check_model.specs.Bools.{is-true, to-T, same-truth, pick-yes, yes-pick, pick-pick}
 use Rattle.check_model.specs.Tests.{fld, entryWord, headOf, tailOf, firstOf, linkTest, fieldTest, chainTest, lastAt, noted, endsOk, stackOk, fieldsOk, chainsOk, sumOf, nthOf, atPosition, totalOf, numbersTest, totalsTest, unusedOk, bucketsFrom, listsTest}
 
 -- loops side by side
@@ -36,11 +36,7 @@ module _ {S : Type 0} (ok : S → Bool) (next : S → S) (done₁ done₂ : S �
   pub turns-then : (k : ℕ) (s : S) → turns ok next (λ s. pick (done₁ s) (done₂ s) false) k s ≡ pick (turns ok next done₁ k s) (done₂ (moved next k s)) false
   unfolding turns moved
   turns-then zero s = refl
-  turns-then (suc k) s = go (ok s) (turns ok next done₁ k (next s)) (done₂ (moved next k (next s))) _ (turns-then k (next s))
-    where
-      go : (a x y z : Bool) → z ≡ pick x y false → pick a z false ≡ pick (pick a x false) y false
-      go true x y z e = e
-      go false x y z e = refl
+  turns-then (suc k) s = pick-pick (ok s) (turns ok next done₁ k (next s)) (done₂ (moved next k (next s))) _ (turns-then k (next s))
 
 module _ {S R : Type 0} (part : S → R) (next : S → S) (next′ : R → R) (goes : (s : S) → part (next s) ≡ next′ (part s)) where
   pub turns-part : (ok done : R → Bool) (k : ℕ) (s : S) → turns (λ s. ok (part s)) next (λ s. done (part s)) k s ≡ turns ok next′ done k (part s)

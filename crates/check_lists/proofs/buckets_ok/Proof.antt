@@ -1,11 +1,10 @@
 use borrow.Author.Needs.{needs}
 use mathlib.Core.Path.{_≡_, sym, _∙_}
-use Prim.Native.Nat.{_-_, _≤_}
+use Prim.Native.Nat.{_+_, _-_, _≤_}
 use native.Mathlib.Omega.{arith}
 use native.Mathlib.Nat.{sub-zero}
-use Rattle.check_model.specs.Tests.{entryWord, firstOf, listed, bucketsFrom}
+use Rattle.check_model.specs.Tests.{entryWord, firstOf, leftAfter, bucketsFrom}
 use Rattle.check_model.specs.LoopLaws.{buckets-fail, buckets-go, buckets-end, listed-le}
-use Rattle.words.proofs.get.Reads as get-reads
 use Rattle.check_lists.proofs.buckets_ok.Statement.{statement}
 use Rattle.check_lists.proofs.buckets_ok.Tie as tie
 use Rattle.check_lists.proofs.buckets_ok.Reads as reads
@@ -21,25 +20,13 @@ abbrev μ-loop : tie.MeasureT-loop
 loop-holds : tie.Need-loop-holds Inv-loop μ-loop
 loop-holds c = (rw sub-zero, omega arith)
 
-cast-get : tie.Need-cast-get Inv-loop μ-loop
-cast-get c = search needs
-
-add-get : tie.Need-add-get Inv-loop μ-loop
-add-get c = search needs
-
-get-requires : tie.Need-get-requires Inv-loop μ-loop
-get-requires c κs = search needs
-
 bucket-requires : tie.Need-bucket-requires Inv-loop μ-loop
 bucket-requires c κs = search needs
 
 returns : tie.Need-returns Inv-loop μ-loop
-unfolding firstOf
 returns c =
-    let l = c .before .before .before .before .loop in
-    let a = c .before .before .before .before .before .before .before .args in
-    let g : c .before .bucket .result ≡ listed (entryWord (a .entries .now)) (a .n) (a .nb) (l .b) (l .left) (firstOf (a .d .now) (a .start) (l .b)) = rw (← c .before .before .get .ensures) (c .before .bucket .ensures) in
-    sym (buckets-fail _ _ _ _ _ (l .b) (l .left) (omega arith) (sym g ∙ c .if1 .taken)) ∙ l .inv .0
+    let l = c .before .before .before .loop in
+    sym (buckets-fail _ _ _ _ _ (l .b) (l .left) (omega arith) (sym (c .before .bucket .ensures) ∙ c .if1 .taken)) ∙ l .inv .0
 
 sub-left : tie.Need-sub-left Inv-loop μ-loop
 sub-left c = search needs
@@ -51,12 +38,16 @@ loop-less : tie.Need-loop-less Inv-loop μ-loop
 loop-less c = search needs
 
 loop-again : tie.Need-loop-again Inv-loop μ-loop
-unfolding firstOf
 loop-again c =
-    let l = c .before .before .before .before .loop in
-    let a = c .before .before .before .before .before .before .before .args in
-    let g : c .before .bucket .result ≡ listed (entryWord (a .entries .now)) (a .n) (a .nb) (l .b) (l .left) (firstOf (a .d .now) (a .start) (l .b)) = rw (← c .before .before .get .ensures) (c .before .bucket .ensures) in
-    (rw g (sym (buckets-go _ _ _ _ _ (l .b) (l .left) (c .before .before .before .loop-test .taken) (λ q. c .if1 .left (g ∙ q))) ∙ l .inv .0), omega (arith, g, listed-le (entryWord (a .entries .now)) (a .n) (a .nb) (l .b) (l .left) (firstOf (a .d .now) (a .start) (l .b))))
+    let l = c .before .before .before .loop in
+    let a = c .before .before .before .before .before .before .args in
+    let f = entryWord (a .entries .now) in
+    let firsts = firstOf (a .d .now) (a .start) in
+    let after : c .before .bucket .result ≡ leftAfter f firsts (a .n) (a .nb) (l .b) (l .left) = c .before .bucket .ensures in
+    let few : leftAfter f firsts (a .n) (a .nb) (l .b) (l .left) ≤ l .left + 1 = listed-le f firsts (a .n) (a .nb) (l .b) 0 (l .left) _ in (
+      rw after (sym (buckets-go _ _ _ _ _ (l .b) (l .left) (c .before .before .loop-test .taken) (λ q. c .if1 .left (after ∙ q))) ∙ l .inv .0),
+      omega (arith, after, few),
+    )
 
 returns-2 : tie.Need-returns-2 Inv-loop μ-loop
 returns-2 c = let l = c .before .loop in sym (buckets-end _ _ _ _ _ (l .b) (l .left) (omega arith)) ∙ l .inv .0
@@ -68,9 +59,6 @@ buckets-ok-spec =
     Inv-loop
     μ-loop
     loop-holds
-    cast-get
-    add-get
-    get-requires
     bucket-requires
     returns
     sub-left
