@@ -7,6 +7,7 @@ use fbr::sys;
 use reference::occupancy::{Table, FIGURES};
 
 pub mod reference;
+pub mod tree;
 
 /// The settings of a cache. They need not be legal: the tests lend wrong ones too.
 #[derive(Clone, Copy, Debug, PartialEq, Eq)]

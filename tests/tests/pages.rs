@@ -1,5 +1,6 @@
 //! What is written beside the code agrees with it: the picture and the table drawn from crates.txt, the dependencies it
 //! lists, and the paths and links of the pages.
+use cache_tests::tree::root;
 use std::collections::{BTreeMap, BTreeSet};
 use std::fs;
 use std::path::{Path, PathBuf};
@@ -8,10 +9,6 @@ use std::process::Command;
 /// Crates that come with the kit.
 const KIT: [&str; 3] = ["bytes", "io", "libc"];
 const FOLDERS: [&str; 7] = ["crates/", "docs/", "tests/", "include/", "bindings/", "samples/", "scripts/"];
-
-fn root() -> PathBuf {
-    Path::new(env!("CARGO_MANIFEST_DIR")).join("..").canonicalize().unwrap()
-}
 
 fn read(path: &Path) -> String {
     fs::read_to_string(path).unwrap_or_else(|e| panic!("{}: {e}", path.display()))

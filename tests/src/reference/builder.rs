@@ -55,7 +55,12 @@ pub fn section(s: Settings, position: usize) -> u32 {
 
 /// The bucket of a block.
 pub fn home(s: Settings, block: u32) -> usize {
-    fnv::of_block(block) as usize % settings::buckets(s.n) as usize
+    home_among(settings::buckets(s.n), block)
+}
+
+/// Its bucket, where there are so many.
+pub fn home_among(buckets: u64, block: u32) -> usize {
+    (u64::from(fnv::of_block(block)) % buckets) as usize
 }
 
 impl Plan {

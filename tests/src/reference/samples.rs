@@ -1,5 +1,6 @@
 //! Random settings and sound directories with corners drawn often.
 use super::builder::{home, Arrangement, Plan, Resident, Totals};
+use super::crowding;
 use super::directory::word;
 use super::rng::Rng;
 use super::settings::{sum_limit, MAX_AMAX, MAX_B, MAX_CMAX, MAX_COUNT, MAX_M};
@@ -80,8 +81,7 @@ pub fn scattered_blocks(rng: &mut Rng, s: Settings, r: u32) -> Vec<u32> {
 
 /// Blocks in as few buckets as they fit into.
 pub fn crowded_blocks(rng: &mut Rng, s: Settings, r: u32) -> Vec<u32> {
-    let mut blocks: Vec<u32> = (0..s.m).collect();
-    blocks.sort_by_key(|&block| home(s, block));
+    let mut blocks = crowding::blocks(s.n, s.m);
     blocks.truncate(r as usize);
     rng.shuffle(&mut blocks);
     blocks
