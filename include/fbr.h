@@ -53,8 +53,8 @@
 #include <stdint.h>
 
 /* The version, as a number for #if (major * 10000 + minor * 100 + patch) and as a text. */
-#define FBR_VERSION 400
-#define FBR_VERSION_TEXT "0.4.0"
+#define FBR_VERSION 401
+#define FBR_VERSION_TEXT "0.4.1"
 
 #ifdef __cplusplus
 extern "C" {
