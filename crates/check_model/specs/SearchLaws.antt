@@ -1,17 +1,18 @@
 -- How far the check searches for a second resident, whatever the words are: the entries in front have been tested, so they have different blocks of
 -- their bucket, and a bucket has only so many blocks below M.
 -- Assumes nothing.
-use Prim.Native.Nat.{ℕ, zero, suc, _+_, _-_, _%_, _≤_, _<_}
+use Prim.Native.Nat.{ℕ, zero, suc, _-_, _%_, _≤_, _<_}
 use mathlib.Core.Path.{_≡_, refl, ap, subst}
 use mathlib.Core.List.{List, [], _∷_}
 use native.Mathlib.Omega.{arith}
-use native.Mathlib.Decide.{ℕ-discrete}
 use lib.ListN.{length}
 use lib.Dec.{T, eqb}
 use borrow.Author.Tests.{eq-eqb}
 use Rattle.basics.specs.Basics.{All}
 use Rattle.basics.specs.Lists.{counting}
+use Rattle.basics.specs.ListLaws.{counting-at}
 use Rattle.links.specs.Off.{Distinct}
+use Rattle.links.specs.All.{off-all}
 use Rattle.links.specs.Sift.{sift}
 use Rattle.words.specs.Words.{val}
 use Rattle.fnv.specs.Fnv.{fnv}
@@ -34,18 +35,11 @@ use Rattle.check_model.specs.Decides.{fields-are, counts}
 unfoldable pub bucketBlocks : ℕ → ℕ → ℕ → List ℕ
 bucketBlocks nb b m = sift (λ v. eqb (fnv v % nb) b) (counting 0 m)
 
-in-counting : (v from m : ℕ) → from ≤ v → v < from + m → In v (counting from m)
-unfolding counting
-in-counting v from zero l u o = absurd (omega arith)
-in-counting v from (suc m) l u o = go (ℕ-discrete v from) (in-counting v (suc from) m)
-  where
-    go : Dec (v ≡ from) → (suc from ≤ v → v < suc from + m → In v (counting (suc from) m)) → ⊥
-    go (yes e) r = o .0 e
-    go (no e) r = r (omega arith) (omega arith) (o .1)
-
 in-bucket : (nb b m v : ℕ) → v < m → fnv v % nb ≡ b → In v (bucketBlocks nb b m)
 unfolding bucketBlocks
-in-bucket nb b m v u e = sift-in (λ v. eqb (fnv v % nb) b) (counting 0 m) v (eq-eqb (fnv v % nb) b e) (in-counting v 0 m (omega arith) (omega arith))
+in-bucket nb b m v u e =
+    sift-in (λ v. eqb (fnv v % nb) b) (counting 0 m) v (eq-eqb (fnv v % nb) b e)
+    (λ o. counting-at (λ x. ¬ (v ≡ x)) 0 m (off-all v (counting 0 m) o) v (omega arith) (omega arith) refl)
 
 module _ (w : List ℕ) (small : val w CHAIN-LIMIT ≤ 64) where
   abbrev n : ℕ
