@@ -12,7 +12,7 @@ use borrow.Author.Tests.{ne-eqb}
 use Rattle.basics.specs.Basics.{All, if_then_else_, bit, total}
 use Rattle.basics.specs.TestLaws.{if-yes}
 use Rattle.stack.specs.Recency.{Resident, cleaned}
-use Rattle.stack.specs.Stack.{marks, saved, savedAll}
+use Rattle.stack.specs.Stack.{modifiedCount, saved, savedAll}
 use Rattle.stack.specs.EntriesLaws.{Apart}
 use Rattle.promises.specs.DirectoryPromises.{cleanedAt}
 
@@ -65,8 +65,8 @@ passed-cleaned (y ∷ l) (suc p) x a at = ap₂ _∷_ (cleaned-twice (x .held) y
 
 -- ---- marks and bytes
 
-pub marks-next : (l : List (Resident ℕ)) (p : ℕ) (x : Resident ℕ) → getElem? l p ≡ some x → marks (take (suc p) l) ≡ marks (take p l) + bit (x .modified)
-unfolding marks total
+pub marks-next : (l : List (Resident ℕ)) (p : ℕ) (x : Resident ℕ) → getElem? l p ≡ some x → modifiedCount (take (suc p) l) ≡ modifiedCount (take p l) + bit (x .modified)
+unfolding modifiedCount total
 marks-next [] p x at = let z : _≡_ {A = ℕ} 0 1 = cc in absurd (omega arith)
 marks-next (y ∷ l) zero x at = let same : bit (y .modified) ≡ bit (x .modified) = ap (λ z. bit (z .modified)) (let q : y ≡ x = cc in q) in omega arith
 marks-next (y ∷ l) (suc p) x at = let h = marks-next l p x at in omega arith

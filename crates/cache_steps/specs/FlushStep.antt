@@ -12,7 +12,7 @@ use Rattle.basics.specs.AllLaws.{all-left}
 use Rattle.basics.specs.Basics.{All, if_then_else_, bit, blockAt, putBlock}
 use Rattle.settings.specs.declared.Settings.{Settings}
 use Rattle.stack.specs.Recency.{Resident, cleaned}
-use Rattle.stack.specs.Stack.{Totals, flush, flushed, marks, saved, savedAll, flushing, step}
+use Rattle.stack.specs.Stack.{Totals, flush, flushed, modifiedCount, saved, savedAll, flushing, step}
 use Rattle.stack.specs.Entries.{entryBytes, filled, entryStep}
 use Rattle.stack.specs.EntriesLaws.{Fit}
 use Rattle.stack.specs.ForgetLaws.{length-savedAll}
@@ -33,7 +33,7 @@ pub record Flushing (start : Memory) (p : ℕ) (m : Memory) (n : ℕ) : Type 0 w
   pub kept : Kept (start .directory) (m .directory)
   pub residents : residentsIn (m .directory) ≡ passed p (residentsIn (start .directory))
   pub totals : totalsIn (m .directory) ≡ outsMore (totalsIn (start .directory)) n
-  pub marked : n ≡ marks (take p (residentsIn (start .directory)))
+  pub marked : n ≡ modifiedCount (take p (residentsIn (start .directory)))
   pub bytes-are : m .bytes ≡ start .bytes
   pub store-is : m .store ≡ savedAll (entryBytes (settingsOf start .b) (start .bytes)) (settingsOf start .b) (take p (residentsIn (start .directory))) (start .store)
 
@@ -50,7 +50,7 @@ module _ (start : Memory) (ready : Ready start) where
   -- ---- the loop
 
   pub flush-start : Flushing start 0 start 0
-  unfolding savedAll marks
+  unfolding savedAll modifiedCount
   flush-start =
       record {
         kept = record { sound-after = ready .is-sound; settings-kept = refl; past-kept = refl };
@@ -161,8 +161,8 @@ module _ (start : Memory) (ready : Ready start) where
             ∙ saved-front s (start .bytes) (ready .bytes-long) (take p l) passed-fit (start .store)
             ∙ sym (so-far .store-is)
 
-        count : marks l ≡ n
-        count = ap marks whole ∙ sym (so-far .marked)
+        count : modifiedCount l ≡ n
+        count = ap modifiedCount whole ∙ sym (so-far .marked)
 
-        totals : outsMore (totalsIn (start .directory)) (marks l) ≡ totalsIn (m .directory)
+        totals : outsMore (totalsIn (start .directory)) (modifiedCount l) ≡ totalsIn (m .directory)
         totals = ap (outsMore (totalsIn (start .directory))) count ∙ sym (so-far .totals)

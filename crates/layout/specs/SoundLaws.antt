@@ -19,7 +19,7 @@ use Rattle.stack.specs.PlaceLaws.{Legal}
 use Rattle.stack.specs.BlockLaws.{Differ}
 use Rattle.stack.specs.SumLaws.{sum}
 use Rattle.stack.specs.KeepLaws.{LegalCounts, Kept}
-use Rattle.stack.specs.Stack.{marks}
+use Rattle.stack.specs.Stack.{modifiedCount}
 use Rattle.stack.specs.EntriesLaws.{Fit, Apart, Residents, Proper}
 use Rattle.layout.specs.Addresses.{BLOCK, COUNT, MODIFIED}
 use Rattle.layout.specs.Sound.{settingsIn, totalsIn, field, order, unusedEntries, stackTests, residentTests, chainTests, kindsRight, sound, residentAt, view}
@@ -132,8 +132,8 @@ module _ (ws : List ℕ) (h : T (sound ws)) where
   sum-of (e ∷ es) = ap (λ n. field ws COUNT e + n) (sum-of es)
 
   -- a modified word is at least its mark
-  marks-of : (es : List ℕ) → marks (map (residentAt ws) es) ≤ total (map (field ws MODIFIED) es)
-  unfolding residentAt total marks
+  marks-of : (es : List ℕ) → modifiedCount (map (residentAt ws) es) ≤ total (map (field ws MODIFIED) es)
+  unfolding residentAt total modifiedCount
   marks-of [] = omega arith
   marks-of (e ∷ es) = let h = marks-of es in let g = mark (eqb (field ws MODIFIED e) 1) eqb-yes in omega arith
     where

@@ -7,7 +7,7 @@ use native.Mathlib.Omega.{arith}
 use Rattle.basics.specs.Basics.{bit}
 use Rattle.basics.specs.Basics as basics
 use Rattle.stack.specs.Recency.{Resident, Place, found, unused, replacing}
-use Rattle.stack.specs.Stack.{Totals, accessTotals, misses, leaving, marks}
+use Rattle.stack.specs.Stack.{Totals, accessTotals, misses, leaving, modifiedCount}
 use Rattle.layout.specs.Addresses.{READS}
 pub use Rattle.linkage.specs.Return.{totalsOf}
 use Rattle.linkage.specs.Fields.{Fields}
@@ -29,17 +29,17 @@ same-totals a b c d a′ b′ c′ d′ p q r o = λ i. record { reads = p i; wr
 -- ---- by the place
 
 pub after-found : (written : Bool) (x : Resident ℕ) (l : List (Resident ℕ)) (t : Totals) → raisedBy t (bit (not written)) (bit written) 0 0 ≡ totalsAfter written (found x l) t
-unfolding misses leaving marks basics.total
+unfolding misses leaving modifiedCount basics.total
 after-found true x l t = refl
 after-found false x l t = refl
 
 pub after-unused : (written : Bool) (l : List (Resident ℕ)) (t : Totals) → raisedBy t (bit (not written)) (bit written) (bit (not written)) 0 ≡ totalsAfter written (unused l) t
-unfolding misses leaving marks basics.total
+unfolding misses leaving modifiedCount basics.total
 after-unused true l t = refl
 after-unused false l t = refl
 
 pub after-replacing : (written : Bool) (v : Resident ℕ) (l : List (Resident ℕ)) (t : Totals) → raisedBy t (bit (not written)) (bit written) (bit (not written)) (bit (v .modified)) ≡ totalsAfter written (replacing v l) t
-unfolding misses leaving marks basics.total
+unfolding misses leaving modifiedCount basics.total
 after-replacing true v l t = same-totals _ _ _ _ _ _ _ _ refl refl refl (omega arith)
 after-replacing false v l t = same-totals _ _ _ _ _ _ _ _ refl refl refl (omega arith)
 

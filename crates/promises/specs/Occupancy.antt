@@ -9,7 +9,7 @@ use Rattle.basics.specs.Basics.{if_then_else_, total}
 use Rattle.basics.specs.Lists.{counting}
 use Rattle.words.specs.Words.{val}
 use Rattle.settings.specs.declared.Settings.{Settings}
-use Rattle.stack.specs.Stack.{Plain, marks}
+use Rattle.stack.specs.Stack.{Plain, modifiedCount}
 use Rattle.stack.specs.Occupancy.{having, classOf, Table, table}
 use Rattle.layout.specs.Addresses.{RESIDENTS}
 use Rattle.layout.specs.Sound.{settingsIn, sound, residentAt, residentsIn}
@@ -40,14 +40,14 @@ OneClass = (count : ℕ) → 1 ≤ count → count ≤ 65535 → (total (having 
 -- ---- the columns add up, for every sound directory
 
 -- the modified marks of all N entries
-abbrev pub marksIn : List ℕ → ℕ
-marksIn words = marks (map (residentAt words) (counting 1 (settingsIn words .n)))
+abbrev pub modifiedIn : List ℕ → ℕ
+modifiedIn words = modifiedCount (map (residentAt words) (counting 1 (settingsIn words .n)))
 
 -- to r, word 7, and to the number of modified marks in the directory
 abbrev pub AddsUp : Type 0
 AddsUp =
     (words : List ℕ) → T (sound words)
-    → (total (tableIn words .residents) ≡ val words RESIDENTS) × (total (tableIn words .modified) ≡ marksIn words)
+    → (total (tableIn words .residents) ≡ val words RESIDENTS) × (total (tableIn words .modified) ≡ modifiedIn words)
 
 -- ---- after every list of calls, as in demand 3, the table is the plain stack's
 

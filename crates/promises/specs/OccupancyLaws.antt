@@ -15,7 +15,7 @@ use Rattle.basics.specs.TotalLaws.{sum, sum-join, sum-map, sum-any-order}
 use Rattle.stack.specs.OccupancyLaws.{one-class, class-found, residents-sum, modified-sum, table-hold}
 use Rattle.stack.specs.Entries.{entryBytes}
 use Rattle.stack.specs.PlaceLaws.{Legal}
-use Rattle.stack.specs.Stack.{Plain, marks}
+use Rattle.stack.specs.Stack.{Plain, modifiedCount}
 use Rattle.words.specs.Words.{val}
 use Rattle.layout.specs.Addresses.{RESIDENTS, BLOCK, COUNT, SECTION, MODIFIED, TO-HEAD, CHAIN-TO-HEAD, CHAIN-TO-TAIL, NEXT-SYNONYM}
 use Rattle.layout.specs.Sound.{settingsIn, field, order, unusedEntries, stackTests, sound, residentAt, residentsIn, view}
@@ -23,7 +23,7 @@ use Rattle.layout.specs.SoundLaws.{stack-passes, sound-kept}
 use Rattle.promises.specs.Promises.{Slices}
 use Rattle.promises.specs.Demand3.{Memory, Lending, Alike, Follows, end, call, memoryLeft, stackLeft}
 use Rattle.promises.specs.Demand3Laws.{demand3}
-use Rattle.promises.specs.Occupancy.{occupancyNumber, noFigures, tableIn, OneClass, marksIn, AddsUp, TableAlike, PlainTable}
+use Rattle.promises.specs.Occupancy.{occupancyNumber, noFigures, tableIn, OneClass, modifiedIn, AddsUp, TableAlike, PlainTable}
 use Rattle.stack.specs.Occupancy.{column, Table, table}
 
 pub one-class-each : OneClass
@@ -86,8 +86,8 @@ module _ (words : List ℕ) (h : T (sound words)) where
       ∙ sum-join mark (order words) (unusedEntries words)
       ∙ omega (arith, unmarked (unusedEntries words) (s .1 .1 .1 .1 .1 .0))
 
-  all-marks : marksIn words ≡ marks (residentsIn words)
-  unfolding marks
+  all-marks : modifiedIn words ≡ modifiedCount (residentsIn words)
+  unfolding modifiedCount
   all-marks =
       sum-map (λ x. bit (x .modified)) (residentAt words) (counting 1 (settingsIn words .n))
       ∙ entry-marks ∙ sym (sum-map (λ x. bit (x .modified)) (residentAt words) (order words))
@@ -100,7 +100,7 @@ module _ (words : List ℕ) (h : T (sound words)) where
       ∙ length-map (order words) (residentAt words)
       ∙ eqb-yes (stack-passes words h .1 .0)
 
-  pub modified-add-up : total (tableIn words .modified) ≡ marksIn words
+  pub modified-add-up : total (tableIn words .modified) ≡ modifiedIn words
   modified-add-up = ap (λ t. total (t .modified)) (table-sound words h) ∙ modified-sum (residentsIn words) legal ∙ sym all-marks
 
 pub adds-up : AddsUp

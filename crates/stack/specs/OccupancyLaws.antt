@@ -16,7 +16,7 @@ use Rattle.basics.specs.TestLaws.{split}
 use Rattle.basics.specs.TotalLaws.{sum, sum-join, sum-same, sum-ones, sum-map, sum-swap}
 use Rattle.stack.specs.Recency.{Resident, hold}
 use Rattle.stack.specs.PlaceLaws.{Legal}
-use Rattle.stack.specs.Stack.{marks}
+use Rattle.stack.specs.Stack.{modifiedCount}
 use Rattle.stack.specs.Occupancy.{classes, inClass, having, classOf, tally, column, Table, table}
 
 -- ---- exactly one class
@@ -214,8 +214,8 @@ module _ {A : Type 0} (test : Resident A → Bool) where
 pub residents-sum : {A : Type 0} (l : List (Resident A)) → All (λ x. Legal (x .count)) l → total (table l .residents) ≡ length l
 residents-sum l legal = column-sum (λ x. true) l legal ∙ sum-ones l
 
-pub modified-sum : {A : Type 0} (l : List (Resident A)) → All (λ x. Legal (x .count)) l → total (table l .modified) ≡ marks l
-unfolding marks
+pub modified-sum : {A : Type 0} (l : List (Resident A)) → All (λ x. Legal (x .count)) l → total (table l .modified) ≡ modifiedCount l
+unfolding modifiedCount
 modified-sum l legal = column-sum (λ x. x .modified) l legal
 
 -- ---- what residents hold makes no difference
