@@ -1,6 +1,7 @@
 ghost use mathlib.Core.Path.{_≡_};
-ghost use Prim.Native.Nat.{_+_, _-_, _*_, _<_};
+ghost use Prim.Native.Nat.{_+_, _-_, _*_, _≤_, _<_};
 ghost use lib.ListN.{length};
+ghost use Rattle.layout.specs.Addresses.{COUNT};
 ghost use Rattle.check_model.specs.Masks.{Masks};
 ghost use Rattle.check_model.specs.Tests.{Lent, Tested, bucketsFrom, chainTest, cursor, endTest, endsOk, entryWord, firstOf, headOf, lastAt, leftAfter, listTest, noSecond, noted, tailOf};
 
@@ -29,10 +30,19 @@ fn cursor_of(d: &[u32], entries: &[u32], before: u32, c: u32) -> u32
     )
 }
 
+// The last entry seen of a count.
+fn last_of(last: &[u32; 65], c: u32) -> u32
+    requires { ⌜ c < 65 ⌝ }
+    ensures { λ r. ⌜ r ≡ lastAt (now (last .entry)) c ⌝ }
+{
+    last[c as usize]
+}
+
 // Entry e stands behind the last one of its count, or in no chain.
-pub fn chain_test(d: &[u32], entries: &[u32], cmax: u32, e: u32, before: u32) -> bool
-    requires { ⌜ 9 * e + 8 < length (now entries) ⌝ }
-    ensures { λ r. ⌜ r ≡ chainTest (entryWord (now (entries .entry))) (headOf (now (d .entry))) cmax e before ⌝ }
+pub fn chain_test(d: &[u32], entries: &[u32], cmax: u32, e: u32, last: &[u32; 65]) -> bool
+    requires { ⌜ (cmax ≤ 64) × (9 * e + 8 < length (now entries)) ⌝ }
+    ensures { λ r. ⌜ r ≡ chainTest (entryWord (now (entries .entry))) (headOf (now (d .entry))) cmax e
+        (lastAt (now (last .entry)) (entryWord (now (entries .entry)) COUNT e)) ⌝ }
 {
     let count = check_stack::field(entries, layout::COUNT, e);
     if count > cmax {
@@ -41,6 +51,7 @@ pub fn chain_test(d: &[u32], entries: &[u32], cmax: u32, e: u32, before: u32) ->
         }
         return false;
     }
+    let before = last_of(last, count);
     if check_stack::field(entries, layout::CHAIN_TO_HEAD, e) == before {
         return cursor_of(d, entries, before, count) == e;
     }
@@ -56,16 +67,6 @@ fn end_test(d: &[u32], entries: &[u32], i: u32, before: u32) -> bool
     false
 }
 
-// The last entry seen of a count.
-pub fn last_of(last: &[u32; 65], c: u32) -> u32
-    ensures { λ r. ⌜ r ≡ lastAt (now (last .entry)) c ⌝ }
-{
-    if c < 65 {
-        return last[c as usize];
-    }
-    0
-}
-
 // Entry e is the last one seen of count c.
 pub fn note(last: &mut [u32; 65], c: u32, e: u32)
     ensures { λ _. ⌜ now (last .exit) ≡ noted (now (last .entry)) c e ⌝ }
@@ -77,6 +78,7 @@ pub fn note(last: &mut [u32; 65], c: u32, e: u32)
 
 // The chains end where the last entries of their counts are.
 pub fn ends_ok(d: &[u32], entries: &[u32], cmax: u32, last: &[u32; 65]) -> bool
+    requires { ⌜ cmax ≤ 64 ⌝ }
     ensures { λ r. ⌜ r ≡ endsOk (entryWord (now (entries .entry))) (headOf (now (d .entry))) (tailOf (now (d .entry))) cmax (now (last .entry)) ⌝ }
 {
     let mut i = 0;

@@ -60,7 +60,7 @@ fn entry_ok(
     p: u32,
     last: &[u32; 65],
 ) -> bool
-    requires { ⌜ 9 * n + 8 < length (now entries) ⌝ }
+    requires { ⌜ (cmax ≤ 64) × (9 * n + 8 < length (now entries)) ⌝ }
     ensures { λ r. ⌜ r ≡ entryTest (entryWord (now (entries .entry))) (headOf (now (d .entry))) n m new mid cmax e before p (now (last .entry)) ⌝ }
 {
     if !check_stack::link_test(entries, n, e, before) {
@@ -69,8 +69,7 @@ fn entry_ok(
     if !check_stack::field_test(entries, m, new, mid, e, p) {
         return false;
     }
-    let c = check_stack::field(entries, layout::COUNT, e);
-    check_lists::chain_test(d, entries, cmax, e, check_lists::last_of(last, c))
+    check_lists::chain_test(d, entries, cmax, e, last)
 }
 
 // What is left to test where the walk ends.
@@ -88,7 +87,7 @@ fn end_ok(
     middle: u32,
     aged: u32,
 ) -> bool
-    requires { ⌜ (n ≤ 4096) × (average ≤ 1000) × (marks ≤ 17592186044416) ⌝ }
+    requires { ⌜ (n ≤ 4096) × (cmax ≤ 64) × (average ≤ 1000) × (marks ≤ 17592186044416) ⌝ }
     ensures { λ r. ⌜ r ≡ walkEnd (now (d .entry)) (entryWord (now (entries .entry))) n cmax average e before s marks (now (last .entry)) middle aged ⌝ }
 {
     if e != 0 {
@@ -129,7 +128,7 @@ fn walk_ok(
     count: u32,
     head: u32,
 ) -> bool
-    requires { ⌜ (n ≤ 4096) × (amax ≤ 1000) × (count ≤ 4096) × (9 * n + 8 < length (now entries)) ⌝ }
+    requires { ⌜ (n ≤ 4096) × (cmax ≤ 64) × (amax ≤ 1000) × (count ≤ 4096) × (9 * n + 8 < length (now entries)) ⌝ }
     ensures { λ r. ⌜ r ≡ walkTest (now (d .entry)) (entryWord (now (entries .entry))) n m new mid cmax amax count head ⌝ }
 {
     let mut last = [0; 65];

@@ -7,6 +7,7 @@ use Rattle.check_lists.proofs.chain_test.Tie as tie
 use Rattle.check_lists.proofs.chain_test.Reads as reads
 use Rattle.check_lists.proofs.chain_test.Lts as lts
 use Rattle.check_lists.proofs.cursor_of.Reads as cursor-of-reads
+use Rattle.check_lists.proofs.last_of.Reads as last-of-reads
 
 field-requires : tie.Need-field-requires
 field-requires c κs = search needs
@@ -25,6 +26,9 @@ returns-2 : tie.Need-returns-2
 unfolding chainTest
 returns-2 c = rw (← c .before .before .before .field .ensures, ← c .before .field2 .ensures, lt-ltb _ _ (c .before .before .if1 .taken), ne-eqb _ _ (c .if2 .left))
 
+last-of-requires : tie.Need-last-of-requires
+last-of-requires c κs = search needs
+
 field-requires-4 : tie.Need-field-requires-4
 field-requires-4 c κs = search needs
 
@@ -33,11 +37,28 @@ cursor-of-requires c κs = search needs
 
 returns-3 : tie.Need-returns-3
 unfolding chainTest
-returns-3 c = rw (← c .before .before .before .before .field .ensures, ← c .before .before .field4 .ensures, ← c .cursor-of .ensures, le-ltb _ _ (c .before .before .before .if1 .left), eq-eqb _ _ (c .before .if3 .taken))
+returns-3 c =
+    let i4 = c .before .before in
+    rw (
+      ← i4 .before .before .before .field .ensures,
+      ← i4 .before .last-of .ensures,
+      ← i4 .field4 .ensures,
+      ← c .cursor-of .ensures,
+      le-ltb _ _ (i4 .before .before .if1 .left),
+      eq-eqb _ _ (c .before .if3 .taken),
+    )
 
 returns-4 : tie.Need-returns-4
 unfolding chainTest
-returns-4 c = rw (← c .before .before .before .field .ensures, ← c .before .field4 .ensures, le-ltb _ _ (c .before .before .if1 .left), ne-eqb _ _ (c .if3 .left))
+returns-4 c =
+    let i4 = c .before in
+    rw (
+      ← i4 .before .before .before .field .ensures,
+      ← i4 .before .last-of .ensures,
+      ← i4 .field4 .ensures,
+      le-ltb _ _ (i4 .before .before .if1 .left),
+      ne-eqb _ _ (c .if3 .left),
+    )
 
 pub chain-test-spec : {M : Type 1} → statement M
 chain-test-spec =
@@ -48,6 +69,7 @@ chain-test-spec =
     field-requires-3
     returns
     returns-2
+    last-of-requires
     field-requires-4
     cursor-of-requires
     returns-3

@@ -1,5 +1,5 @@
 use borrow.Author.Needs.{needs}
-use borrow.Author.Tests.{lt-ltb, le-ltb}
+use borrow.Author.Tests.{lt-ltb}
 use Rattle.check_model.specs.Tests.{lastAt}
 use Rattle.check_lists.proofs.last_of.Statement.{statement}
 use Rattle.check_lists.proofs.last_of.Tie as tie
@@ -14,11 +14,7 @@ element-copy-out-result c = search needs
 
 returns : tie.Need-returns
 unfolding lastAt
-returns c = rw (lt-ltb _ _ (c .before .if1 .taken))
-
-returns-2 : tie.Need-returns-2
-unfolding lastAt
-returns-2 c = rw (le-ltb _ _ (c .if1 .left))
+returns c = rw (lt-ltb _ 65 (c .before .pre))
 
 pub last-of-spec : {M : Type 1} → statement M
-last-of-spec = tie.close (tie.spec mul-result element-copy-out-result returns returns-2)
+last-of-spec = tie.close (tie.spec mul-result element-copy-out-result returns)

@@ -9,8 +9,6 @@ use Rattle.soundness.proofs.entry_ok.Tie as tie
 use Rattle.soundness.proofs.entry_ok.Reads as reads
 use Rattle.soundness.proofs.entry_ok.Lts as lts
 use Rattle.check_lists.proofs.chain_test.Reads as chain-test-reads
-use Rattle.check_lists.proofs.last_of.Reads as last-of-reads
-use Rattle.check_stack.proofs.field.Reads as field-reads
 use Rattle.check_stack.proofs.field_test.Reads as field-test-reads
 use Rattle.check_stack.proofs.link_test.Reads as link-test-reads
 
@@ -28,18 +26,24 @@ returns-2 : tie.Need-returns-2
 unfolding entryTest
 returns-2 c = rw (← c .before .before .before .link-test .ensures, ← c .before .field-test .ensures, not-false (c .before .before .before .link-test .result) (c .before .before .if1 .left), not-true (c .before .field-test .result) (c .if2 .taken))
 
-field-requires : tie.Need-field-requires
-field-requires c κs = let low = link-low _ _ _ _ (sym (c .before .before .before .link-test .ensures) ∙ not-false _ (c .before .before .if1 .left)) in omega (arith, low)
-
-last-of-requires : tie.Need-last-of-requires
-last-of-requires c κs = search needs
-
 chain-test-requires : tie.Need-chain-test-requires
-chain-test-requires c κs = let low = link-low _ _ _ _ (sym (c .before .before .before .before .before .link-test .ensures) ∙ not-false _ (c .before .before .before .before .if1 .left)) in omega (arith, low)
+chain-test-requires c κs =
+    let link = c .before .before .before .link-test in
+    let low = link-low _ _ _ _ (sym (link .ensures) ∙ not-false _ (c .before .before .if1 .left)) in
+    (omega arith, omega (arith, low))
 
 returns-3 : tie.Need-returns-3
 unfolding entryTest
-returns-3 c = rw (← c .before .before .before .before .before .before .link-test .ensures, ← c .before .before .before .before .field-test .ensures, ← c .before .before .field .ensures, ← c .before .last-of .ensures, ← c .chain-test .ensures, not-false (c .before .before .before .before .before .before .link-test .result) (c .before .before .before .before .before .if1 .left), not-false (c .before .before .before .before .field-test .result) (c .before .before .before .if2 .left))
+returns-3 c =
+    let link = c .before .before .before .before .link-test in
+    let numbers = c .before .before .field-test in
+    rw (
+      ← link .ensures,
+      ← numbers .ensures,
+      ← c .chain-test .ensures,
+      not-false (link .result) (c .before .before .before .if1 .left),
+      not-false (numbers .result) (c .before .if2 .left),
+    )
 
 pub entry-ok-spec : {M : Type 1} → statement M
 entry-ok-spec =
@@ -49,7 +53,5 @@ entry-ok-spec =
     returns
     field-test-requires
     returns-2
-    field-requires
-    last-of-requires
     chain-test-requires
     returns-3)
