@@ -252,7 +252,7 @@ pub purge-ready : (d : List ℕ) (block e : ℕ) → T (sound d) → lookup bloc
 purge-ready d block e ok here = record { is-sound = ok; resident = record { block = block; here = here } }
 
 pub purge-done : (d : List ℕ) (block e : ℕ) (r : Bool) (after : List ℕ) → lookup block (residentsIn d) ≡ some (residentAt d e)
-    → ((b : ℕ) → lookup b (residentsIn d) ≡ some (residentAt d e) → (residentAt d e .modified ≡ r) × Purged 15 d b after)
+    → ((b : ℕ) → lookup b (residentsIn d) ≡ some (residentAt d e) → (residentAt d e .marks .modified ≡ r) × Purged 15 d b after)
     → (word : ℕ) → word ≡ answerWord (purged r) → PurgeDone d block after word
 purge-done d block e r after here gone word word-is =
     record {

@@ -7,11 +7,11 @@ use mathlib.Core.Logic.{_≢_}
 use mathlib.Core.Bool.{Bool, true, false, _&&_}
 use mathlib.Core.List.{List, [], _∷_, map}
 use lib.ListN.{length, take, getD}
-use lib.Dec.{eqb}
+use lib.Dec.{eqb, ltb}
 use borrow.Author.Tests.{lt-ltb, le-ltb, ne-eqb}
 use Rattle.basics.specs.Basics.{if_then_else_, total}
 use Rattle.settings.specs.declared.Settings.{Settings}
-use Rattle.stack.specs.Stack.{Work, read, write, purge, flush, invalid}
+use Rattle.stack.specs.Stack.{Work, read, write, purge, flush, tick, invalid}
 use Rattle.stack.specs.Batch.{work, isRead, isWrite, isInvalid, howMany}
 use Rattle.cache_steps.specs.BatchFacts.{one-more}
 use Rattle.batch_number.specs.declared.Tally.{Tally}
@@ -26,44 +26,72 @@ module _ (s : Settings) (w : ℕ) where
   abbrev value : ℕ
   value = w % 2 ^ 28
 
-  pub kind-flush : kind ≡ 4 → value ≡ 0 → 4 ≡ kindOf (work s w)
-  unfolding work
-  kind-flush k e = rw (k, e)
+  -- a word of kind k by its value v: whether that is inside the store, and whether it is 0
+  abbrev worked : ℕ → Bool → Bool → ℕ → Work
+  worked k inside none v =
+      if eqb k 1 && inside then read v
+      else if eqb k 2 && inside then write v
+      else if eqb k 3 && inside then purge v
+      else if eqb k 4 && none then flush
+      else if eqb k 5 && none then tick
+      else invalid
 
-  -- a flush with a value
-  pub kind-valued : kind ≡ 4 → value ≢ 0 → 0 ≡ kindOf (work s w)
+  none : (a : Bool) (x y : Work) → (if a && false then x else y) ≡ y
+  none true x y = refl
+  none false x y = refl
+
+  -- a flush or a tick, and one with a value
+  pub kind-flush : 3 < kind → kind ≤ 5 → value ≡ 0 → kind ≡ kindOf (work s w)
   unfolding work
-  kind-valued k n = rw (k, ne-eqb value 0 n)
+  kind-flush h l e = rw e (go kind h l)
+    where
+      go : (k : ℕ) → 3 < k → k ≤ 5
+          → k ≡ kindOf (worked k (ltb 0 (s .m)) true 0)
+      go zero h l = absurd (omega arith)
+      go (suc zero) h l = absurd (omega arith)
+      go (suc (suc zero)) h l = absurd (omega arith)
+      go (suc (suc (suc zero))) h l = absurd (omega arith)
+      go (suc (suc (suc (suc zero)))) h l = refl
+      go (suc (suc (suc (suc (suc zero))))) h l = refl
+      go (suc (suc (suc (suc (suc (suc k)))))) h l = absurd (omega arith)
+
+  pub kind-valued : 3 < kind → value ≢ 0 → 0 ≡ kindOf (work s w)
+  unfolding work
+  kind-valued h n =
+      rw (ne-eqb kind 1 (λ e. omega arith), ne-eqb kind 2 (λ e. omega arith), ne-eqb kind 3 (λ e. omega arith), ne-eqb value 0 n)
+      (sym (ap kindOf (none (eqb kind 4) _ _ ∙ none (eqb kind 5) _ _)))
 
   -- a block of M or more
-  pub kind-outside : kind ≢ 4 → s .m ≤ value → 0 ≡ kindOf (work s w)
+  pub kind-outside : kind ≤ 3 → s .m ≤ value → 0 ≡ kindOf (work s w)
   unfolding work
-  kind-outside n h = rw (le-ltb value (s .m) h, ne-eqb kind 4 n) (sym (go (eqb kind 1) (eqb kind 2) (eqb kind 3)))
-    where
-      none : (a : Bool) (x y : Work) → (if a && false then x else y) ≡ y
-      none true x y = refl
-      none false x y = refl
+  kind-outside l h =
+      rw (le-ltb value (s .m) h, ne-eqb kind 4 (λ e. omega arith), ne-eqb kind 5 (λ e. omega arith))
+      (sym (ap kindOf (none (eqb kind 1) _ _ ∙ none (eqb kind 2) _ _ ∙ none (eqb kind 3) _ _)))
 
-      go : (a b c : Bool) → kindOf (if a && false then read value else if b && false then write value else if c && false then purge value else invalid) ≡ 0
-      go a b c = ap kindOf (none a _ _ ∙ none b _ _ ∙ none c _ _)
-
-  -- a kind outside 1 to 4
-  pub kind-unknown : 4 < kind → 0 ≡ kindOf (work s w)
+  -- a kind outside 1 to 5
+  pub kind-unknown : 5 < kind → 0 ≡ kindOf (work s w)
   unfolding work
-  kind-unknown h = rw (ne-eqb kind 1 (λ e. omega arith), ne-eqb kind 2 (λ e. omega arith), ne-eqb kind 3 (λ e. omega arith), ne-eqb kind 4 (λ e. omega arith))
+  kind-unknown h =
+      rw (
+        ne-eqb kind 1 (λ e. omega arith),
+        ne-eqb kind 2 (λ e. omega arith),
+        ne-eqb kind 3 (λ e. omega arith),
+        ne-eqb kind 4 (λ e. omega arith),
+        ne-eqb kind 5 (λ e. omega arith),
+      )
 
   -- a block of the store
-  pub kind-inside : kind ≢ 4 → value < s .m → kind ≤ 4 → kind ≡ kindOf (work s w)
+  pub kind-inside : kind ≤ 3 → value < s .m → kind ≡ kindOf (work s w)
   unfolding work
-  kind-inside n h l = rw (lt-ltb value (s .m) h) (go kind n l)
+  kind-inside l h = rw (lt-ltb value (s .m) h) (go kind l)
     where
-      go : (k : ℕ) → k ≢ 4 → k ≤ 4 → k ≡ kindOf (if eqb k 1 && true then read value else if eqb k 2 && true then write value else if eqb k 3 && true then purge value else if eqb k 4 && eqb value 0 then flush else invalid)
-      go zero n l = refl
-      go (suc zero) n l = refl
-      go (suc (suc zero)) n l = refl
-      go (suc (suc (suc zero))) n l = refl
-      go (suc (suc (suc (suc zero)))) n l = absurd (n refl)
-      go (suc (suc (suc (suc (suc k))))) n l = absurd (omega arith)
+      go : (k : ℕ) → k ≤ 3
+          → k ≡ kindOf (worked k true (eqb value 0) value)
+      go zero l = refl
+      go (suc zero) l = refl
+      go (suc (suc zero)) l = refl
+      go (suc (suc (suc zero))) l = refl
+      go (suc (suc (suc (suc k)))) l = absurd (omega arith)
 
 -- ---- one word more, by its kind
 
@@ -73,6 +101,7 @@ module _ (t : Tally) where
   plus-invalid (write b) e = absurd (omega arith)
   plus-invalid (purge b) e = absurd (omega arith)
   plus-invalid flush e = absurd (omega arith)
+  plus-invalid tick e = absurd (omega arith)
   plus-invalid invalid e = simp add-zero
 
   pub plus-read : (w : Work) → kindOf w ≡ 1 → record { reads = t .reads + 1; writes = t .writes; invalid = t .invalid } ≡ plus t w
@@ -80,6 +109,7 @@ module _ (t : Tally) where
   plus-read (write b) e = absurd (omega arith)
   plus-read (purge b) e = absurd (omega arith)
   plus-read flush e = absurd (omega arith)
+  plus-read tick e = absurd (omega arith)
   plus-read invalid e = absurd (omega arith)
 
   pub plus-write : (w : Work) → kindOf w ≡ 2 → record { reads = t .reads; writes = t .writes + 1; invalid = t .invalid } ≡ plus t w
@@ -87,14 +117,16 @@ module _ (t : Tally) where
   plus-write (write b) e = simp add-zero
   plus-write (purge b) e = absurd (omega arith)
   plus-write flush e = absurd (omega arith)
+  plus-write tick e = absurd (omega arith)
   plus-write invalid e = absurd (omega arith)
 
-  -- purge and flush
+  -- purge, flush and tick
   pub plus-other : (w : Work) → kindOf w ≢ 0 → kindOf w ≢ 1 → kindOf w ≢ 2 → t ≡ plus t w
   plus-other (read b) x y z = absurd (y refl)
   plus-other (write b) x y z = absurd (z refl)
   plus-other (purge b) x y z = simp add-zero
   plus-other flush x y z = simp add-zero
+  plus-other tick x y z = simp add-zero
   plus-other invalid x y z = absurd (x refl)
 
 -- ---- the words up to one of them
@@ -129,6 +161,7 @@ tally-few s words h =
     reads-once (write b) = omega arith
     reads-once (purge b) = omega arith
     reads-once flush = omega arith
+    reads-once tick = omega arith
     reads-once invalid = omega arith
 
     writes-once : (w : Work) → isWrite w ≤ 1
@@ -136,6 +169,7 @@ tally-few s words h =
     writes-once (write b) = omega arith
     writes-once (purge b) = omega arith
     writes-once flush = omega arith
+    writes-once tick = omega arith
     writes-once invalid = omega arith
 
     invalid-once : (w : Work) → isInvalid w ≤ 1
@@ -143,4 +177,5 @@ tally-few s words h =
     invalid-once (write b) = omega arith
     invalid-once (purge b) = omega arith
     invalid-once flush = omega arith
+    invalid-once tick = omega arith
     invalid-once invalid = omega arith

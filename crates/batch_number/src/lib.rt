@@ -13,6 +13,11 @@ const MOST_WORDS: usize = 1024;
 
 const MOST_REFERENCES: u64 = 72057594037927935;
 
+// The last kind of a work word that has a block, and the last of all.
+const PURGE: u32 = 3;
+
+const TICK: u32 = 5;
+
 // How many words of a batch are reads, writes and invalid.
 struct Tally {
     reads: u32,
@@ -26,16 +31,16 @@ pub fn kind_of(s: Settings, word: u32) -> u32
 {
     let kind = word / words::VALUES;
     let value = word % words::VALUES;
-    if kind == 4 {
+    if kind > TICK {
+        return 0;
+    }
+    if kind > PURGE {
         if value == 0 {
-            return 4;
+            return kind;
         }
         return 0;
     }
     if value >= s.m {
-        return 0;
-    }
-    if kind > 4 {
         return 0;
     }
     kind

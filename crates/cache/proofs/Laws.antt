@@ -13,7 +13,7 @@ use lib.Dec.{T, eqb}
 use mir.Facts.{eqb-yes, eqb-no}
 use Rattle.basics.specs.Basics.{blockAt, putBlock, total}
 use Rattle.settings.specs.declared.Settings.{Settings}
-use Rattle.stack.specs.Stack.{Work, read, write, purge, flush, invalid, Answer, flushed, answerWord}
+use Rattle.stack.specs.Stack.{Work, read, write, purge, flush, tick, invalid, Answer, flushed, answerWord}
 use Rattle.stack.specs.Batch.{work, isRead, isWrite, isInvalid, howMany, batchNumber}
 use Rattle.stack.specs.BatchLaws.{allowed, works-inside}
 use Rattle.layout.specs.Sound.{settingsIn, totalsIn}
@@ -23,6 +23,7 @@ use Rattle.promises.specs.Demand3.{Memory}
 use Rattle.cache_steps.specs.Carried.{settingsOf, memory, Ready, Carried}
 use Rattle.cache_steps.specs.Runs.{Chain, end, snoc-word, all-carried, chain-ready, chain-answers}
 use Rattle.cache_steps.specs.BatchFacts.{valid-at, incoming-at, outgoing-at, one-more}
+use Rattle.cache_steps.specs.FlushLists.{sweep}
 use Rattle.cache_steps.specs.WorkLaws.{work-read, work-write, work-purge, work-flush}
 use Rattle.cache_steps.specs.GivenLaws.{carried-gives, chain-gives}
 use Rattle.cache_steps.specs.TotalsLaws.{chain-totals}
@@ -44,13 +45,17 @@ module _ (p : Passed) (s : Settings) (w : ℕ) (valid : isInvalid (work s w) ≡
   pub counted-write : w / 2 ^ 28 ≡ 2 → Counted (p .reads) (p .writes + 1)
   counted-write kind = rw (work-write s w kind valid .0) (omega arith, refl)
 
-  -- a purge or a flush
+  -- a purge, a flush or a tick
   pub counted-none : w / 2 ^ 28 ≢ 1 → w / 2 ^ 28 ≢ 2 → Counted (p .reads) (p .writes)
   counted-none read₁ write₁ = go (eqb (w / 2 ^ 28) 3) (eqb-yes {a = w / 2 ^ 28} {b = 3}) (eqb-no {a = w / 2 ^ 28} {b = 3})
     where
       go : (x : Bool) → (T x → w / 2 ^ 28 ≡ 3) → (T (not x) → w / 2 ^ 28 ≢ 3) → Counted (p .reads) (p .writes)
       go true is differs = rw (work-purge s w (is tt) valid .0) (omega arith, omega arith)
-      go false is differs = rw (work-flush s w read₁ write₁ (differs tt) valid) (omega arith, omega arith)
+      go false is differs = rw (work-flush s w read₁ write₁ (differs tt) valid) (swept (eqb (w / 2 ^ 28) 5))
+        where
+          swept : (ticks : Bool) → (p .reads ≡ p .reads + isRead (sweep ticks)) × (p .writes ≡ p .writes + isWrite (sweep ticks))
+          swept true = (omega arith, omega arith)
+          swept false = (omega arith, omega arith)
 
 -- ---- one word
 
@@ -123,7 +128,8 @@ module _ (m : Memory) (s : Settings) (w : ℕ) (passed : Passed) (incoming outgo
   pub flush-ready : Ready m × (s .b ≡ settingsOf m .b)
   flush-ready = (ready .ready, size-is)
 
-  pub flush-word : w / 2 ^ 28 ≢ 1 → w / 2 ^ 28 ≢ 2 → w / 2 ^ 28 ≢ 3 → (after : Memory) (n r : ℕ) → ((x : List ℕ) → Carried m flush x after (flushed n) []) → r ≡ answerWord (flushed n)
+  pub flush-word : w / 2 ^ 28 ≢ 1 → w / 2 ^ 28 ≢ 2 → w / 2 ^ 28 ≢ 3 → (after : Memory) (n r : ℕ)
+      → ((x : List ℕ) → Carried m (sweep (eqb (w / 2 ^ 28) 5)) x after (flushed n) []) → r ≡ answerWord (flushed n)
       → WordDone m s w passed incoming outgoing r after outgoing
   flush-word read₁ write₁ purge₁ after n r carried word-is =
       record {
@@ -206,6 +212,7 @@ module _ (before : Slices) (words incoming : List ℕ) (s : Settings) (after : S
       one-read (write x) = omega arith
       one-read (purge x) = omega arith
       one-read flush = omega arith
+      one-read tick = omega arith
       one-read invalid = omega arith
 
       one-write : (x : Work) → isWrite x ≤ 1
@@ -213,6 +220,7 @@ module _ (before : Slices) (words incoming : List ℕ) (s : Settings) (after : S
       one-write (write x) = omega arith
       one-write (purge x) = omega arith
       one-write flush = omega arith
+      one-write tick = omega arith
       one-write invalid = omega arith
 
       how-many : (f : Work → ℕ) → ((x : Work) → f x ≤ 1) → (xs : List ℕ) → howMany f (map (work s) xs) ≤ length xs
@@ -320,6 +328,6 @@ module _ (words incoming : List ℕ) (before : Slices) (n : ℕ) (is : n ≡ num
       let chain = subst (λ (t : Settings). Chain (t .b) (memoryIn before) (map (work t) words) incoming (memoryIn after) (done .answered) (done .given)) same (done .chain) in
       record {
         returned = sym zero ∙ is;
-        accepted = λ e. accepted words incoming before after (start .ready) (start .number) chain (done .answers-are) (done .outgoing-is);
+        accepted = λ e. accepted words incoming before after (start .ready) chain (done .answers-are) (done .outgoing-is);
         declined = λ refused. absurd (refused refl);
       }

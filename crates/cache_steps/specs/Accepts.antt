@@ -1,21 +1,18 @@
 -- An accepted batch: its words carried out one after the other meet the promise.
-use Prim.Native.Nat.{ℕ, _/_, _^_, _<_, _≤_}
-use native.Mathlib.Omega.{arith}
+use Prim.Native.Nat.{ℕ, _≤_}
 use mathlib.Core.Path.{_≡_, sym, ap, subst, _∙_}
 use mathlib.Core.Bool.{not}
 use mathlib.Core.List.{List, [], _∷_, map}
 use lib.Dec.{T}
-use Rattle.basics.specs.Basics.{All, total}
+use Rattle.basics.specs.Basics.{All}
 use Rattle.words.specs.Links.{linksChanged}
 use Rattle.settings.specs.declared.Settings.{Settings}
 use Rattle.stack.specs.Stack.{Work, Answer, answerWord}
-use Rattle.stack.specs.Batch.{work, isInvalid, howMany, batchNumber}
-use Rattle.stack.specs.BatchLaws.{allowed}
+use Rattle.stack.specs.Batch.{work}
 use Rattle.stack.specs.Entries.{entryRun}
-use Rattle.layout.specs.Sound.{settingsIn, totalsIn, view}
-use Rattle.promises.specs.Promises.{over, Slices, behind, callOf, halved, Accepted}
+use Rattle.layout.specs.Sound.{settingsIn, view}
+use Rattle.promises.specs.Promises.{over, Slices, behind, halved, Accepted}
 use Rattle.promises.specs.Demand3.{Memory}
-use Rattle.cache_steps.specs.BatchFacts.{work-bounded}
 use Rattle.cache_steps.specs.Carried.{memory, Ready}
 use Rattle.cache_steps.specs.Runs.{Chain, AllCarried, chain-ready, none-carried, all-carried}
 
@@ -25,7 +22,6 @@ memoryIn t = memory (t .directory) (t .bytes) (t .store)
 
 module _ (words incoming : List ℕ) (before after : Slices) {answers : List Answer} {given : List ℕ}
     (ready : Ready (memoryIn before))
-    (number : batchNumber (settingsIn (before .directory)) (totalsIn (before .directory)) (callOf words incoming before) ≡ 0)
     (chain : Chain (settingsIn (before .directory) .b) (memoryIn before) (map (work (settingsIn (before .directory))) words) incoming (memoryIn after) answers given) where
   abbrev s : Settings
   s = settingsIn (before .directory)
@@ -37,12 +33,9 @@ module _ (words incoming : List ℕ) (before after : Slices) {answers : List Ans
   unfolding entryRun view
   ran-is = done .run-is
 
-  -- one read, write or purge
-  links : (w : ℕ) → words ≡ w ∷ [] → w / 2 ^ 28 < 4 → All (λ a. T (not (halved a))) answers → linksChanged (before .directory) (after .directory) ≤ 20
-  unfolding total
-  links w e kind calm =
-      let valid : howMany isInvalid (map (work s) (w ∷ [])) ≡ 0 = subst (λ ws. howMany isInvalid (map (work s) ws) ≡ 0) e (allowed s (totalsIn (before .directory)) (callOf words incoming before) number .valid) in
-      done .links-few (work s w) (ap (map (work s)) e) (work-bounded s w kind (omega arith)) calm
+  -- one word, of whatever kind
+  links : (w : ℕ) → words ≡ w ∷ [] → All (λ a. T (not (halved a))) answers → linksChanged (before .directory) (after .directory) ≤ 20
+  links w e calm = done .links-few (work s w) (ap (map (work s)) e) calm
 
   empty-batch : after .answers ≡ over (map answerWord answers) (before .answers) → after .outgoing ≡ over given (before .outgoing)
       → words ≡ [] → after ≡ before
@@ -67,6 +60,7 @@ module _ (words incoming : List ℕ) (before after : Slices) {answers : List Ans
       words-past = done .words-past;
       bytes-past = done .bytes-past;
       empty-batch = empty-batch told gave;
-      links = λ w e kind calm. links w e kind (subst (λ r. All (λ a. T (not (halved a))) (r .answers)) ran-is calm);
+      links-stay = λ w e still. done .links-none (work s w) (ap (map (work s)) e) still;
+      links = λ w e calm. links w e (subst (λ r. All (λ a. T (not (halved a))) (r .answers)) ran-is calm);
     },
   )

@@ -16,6 +16,8 @@ use Rattle.stack.specs.EntriesLaws.{Entry, entry-placed}
 use Rattle.stack.specs.ForgetLaws.{length-savedAll}
 use Rattle.layout.specs.Sound.{totalsIn, residentsIn, view}
 use Rattle.layout.specs.SoundLaws.{sound-residents}
+use Rattle.words.specs.Links.{linksChanged}
+use Rattle.promises.specs.Promises.{isStill}
 use Rattle.promises.specs.DirectoryPromises.{placeOf, Accessed}
 use Rattle.promises.specs.Demand3.{Memory}
 use Rattle.cache_steps.specs.Carried.{cacheOf, settingsOf, memory, Ready, Carried}
@@ -129,6 +131,10 @@ module _ (m : Memory) (ready : Ready m) (b : ℕ) (written : Bool) {k e : ℕ} {
     picks true = accessed .entry-free
     picks false = accessed .entry-free
 
+    no-still : (w : Bool) → T (isStill (accessing w b)) → linksChanged (m .directory) d ≡ 0
+    no-still true still = absurd still
+    no-still false still = absurd still
+
     carried-out : k ≤ 20 → Carried m (accessing written b) incoming (memory d (putBlock (s .b) (e - 1) put (m .bytes)) store₁) answer (if written then [] else bytes₁)
     carried-out few =
         carry m ready d (putBlock (s .b) (e - 1) put (m .bytes)) store₁ (accessed .kept) in-bytes store-same
@@ -137,7 +143,7 @@ module _ (m : Memory) (ready : Ready m) (b : ℕ) (written : Bool) {k e : ℕ} {
         (ap (λ x. settled s (asked b written x q)) (accessed .entry-is) ∙ sym (accessed .residents))
         (sym (accessed .totals))
         (ap (λ x. answering (chains s (counts (residentsIn (m .directory)))) (exceeds s (counts (asked b written x q))) q) (accessed .entry-is) ∙ accessed .answer-is))
-        (λ bound calm. let h = accessed .links-few calm in omega arith)
+        (record { few = λ calm. let h = accessed .links-few calm in omega arith; none = no-still written })
 
     -- with the bytes that the answer tells
     pub access-carried : k ≤ 20

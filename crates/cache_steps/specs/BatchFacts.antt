@@ -1,19 +1,15 @@
 -- What number 0 gives a batch's loop: no word is invalid, and there is room for what the first words take and give.
-use Prim.Native.Nat.{ℕ, zero, suc, _+_, _*_, _/_, _%_, _^_, _≤_, _<_}
+use Prim.Native.Nat.{ℕ, zero, suc, _+_, _*_, _≤_, _<_}
 use native.Mathlib.Nat.{add-mul, mul-le-mul-right}
 use native.Mathlib.Omega.{arith}
 use mathlib.Core.Path.{_≡_}
-use mathlib.Core.Bool.{Bool, true, false, _&&_}
 use mathlib.Core.List.{List, [], _∷_, map}
 use lib.ListN.{length, take, getD}
-use lib.Dec.{T, ltb, eqb}
-use mir.Facts.{and-yes, eqb-yes}
-use Rattle.basics.specs.Basics.{if_then_else_, total}
+use Rattle.basics.specs.Basics.{total}
 use Rattle.settings.specs.declared.Settings.{Settings}
-use Rattle.stack.specs.Stack.{Totals, Work, read, write, purge, flush, invalid}
+use Rattle.stack.specs.Stack.{Totals, Work}
 use Rattle.stack.specs.Batch.{work, isRead, isWrite, isInvalid, howMany, Call, batchNumber}
 use Rattle.stack.specs.BatchLaws.{allowed}
-use Rattle.cache_steps.specs.Carried.{bounded}
 
 -- ---- the words up to one of them
 
@@ -51,27 +47,3 @@ module _ (s : Settings) (t : Totals) (c : Call) (e : batchNumber s t c ≡ 0) (i
 
   pub outgoing-at : howMany isRead (map (work s) (take i (c .words))) * s .b + isRead (work s (getD (c .words) i 0)) * s .b ≤ c .outgoingLength
   outgoing-at = blocks-up-to s isRead (c .words) i h (c .outgoingLength) (allowed s t c e .outgoing)
-
--- ---- a valid word of kind 1 to 3 is a read, a write or a purge
-
-pub work-bounded : (s : Settings) (w : ℕ) → w / 2 ^ 28 < 4 → isInvalid (work s w) ≡ 0 → T (bounded (work s w))
-unfolding work
-work-bounded s w h =
-    go (eqb kind 1 && ltb v (s .m)) (eqb kind 2 && ltb v (s .m)) (eqb kind 3 && ltb v (s .m)) (eqb kind 4 && eqb v 0)
-    (λ t. let g : kind ≡ 4 = eqb-yes (and-yes (eqb kind 4) (eqb v 0) t .0) in omega arith)
-  where
-    kind : ℕ
-    kind = w / 2 ^ 28
-
-    v : ℕ
-    v = w % 2 ^ 28
-
-    chosen : Bool → Bool → Bool → Bool → Work
-    chosen r x p f = if r then read v else if x then write v else if p then purge v else if f then flush else invalid
-
-    go : (r x p f : Bool) → (T f → ⊥) → isInvalid (chosen r x p f) ≡ 0 → T (bounded (chosen r x p f))
-    go true x p f no-flush e = tt
-    go false true p f no-flush e = tt
-    go false false true f no-flush e = tt
-    go false false false true no-flush e = no-flush tt
-    go false false false false no-flush e = omega arith

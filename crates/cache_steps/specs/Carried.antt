@@ -2,17 +2,17 @@
 -- entries. Statements only.
 use Prim.Native.Nat.{ℕ, _*_, _≤_}
 use mathlib.Core.Path.{_≡_}
-use mathlib.Core.Bool.{Bool, true, false, not}
+use mathlib.Core.Bool.{not}
 use mathlib.Core.List.{List}
 use lib.ListN.{length, drop}
 use lib.Dec.{T}
 use Rattle.words.specs.Links.{linksChanged}
 use Rattle.settings.specs.declared.Settings.{Settings}
 use Rattle.settings.specs.Buckets.{directoryLength}
-use Rattle.stack.specs.Stack.{Work, read, write, purge, flush, invalid, Answer}
+use Rattle.stack.specs.Stack.{Work, Answer}
 use Rattle.stack.specs.Entries.{Cache, entryStep, Pick}
 use Rattle.layout.specs.Sound.{settingsIn, sound}
-use Rattle.promises.specs.Promises.{cacheIn, halved}
+use Rattle.promises.specs.Promises.{cacheIn, halved, isStill}
 use Rattle.promises.specs.Demand3.{Memory}
 
 abbrev pub cacheOf : Memory → Cache
@@ -30,13 +30,10 @@ pub record Ready (m : Memory) : Type 0 where
   pub bytes-long : settingsOf m .n * settingsOf m .b ≤ length (m .bytes)
   pub store-long : settingsOf m .m * settingsOf m .b ≤ length (m .store)
 
--- reads, writes and purges: the words of the link bound
-abbrev pub bounded : Work → Bool
-bounded (read b) = true
-bounded (write b) = true
-bounded (purge b) = true
-bounded flush = false
-bounded invalid = false
+-- at most 20 link words changed by a word that doesn't halve the counts, none by a flush or a tick
+pub record LinksKept (w : Work) (answer : Answer) (before after : List ℕ) : Type 0 where
+  pub few : T (not (halved answer)) → linksChanged before after ≤ 20
+  pub none : T (isStill w) → linksChanged before after ≡ 0
 
 -- The word w, whose incoming bytes are these, from one memory to the next.
 pub record Carried (before : Memory) (w : Work) (incoming : List ℕ) (after : Memory) (answer : Answer) (given : List ℕ) : Type 0 where
@@ -49,4 +46,4 @@ pub record Carried (before : Memory) (w : Work) (incoming : List ℕ) (after : M
   pub bytes-past : drop (settingsOf before .n * settingsOf before .b) (after .bytes) ≡ drop (settingsOf before .n * settingsOf before .b) (before .bytes)
   pub bytes-same : length (after .bytes) ≡ length (before .bytes)
   pub store-same : length (after .store) ≡ length (before .store)
-  pub links-few : T (bounded w) → T (not (halved answer)) → linksChanged (before .directory) (after .directory) ≤ 20
+  pub links : LinksKept w answer (before .directory) (after .directory)

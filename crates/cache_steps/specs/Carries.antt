@@ -1,20 +1,16 @@
 -- How a word is shown to be carried out: an operation of the directory that kept what it promises, beside data whose front became the data
 -- of the machine over entries, and a store that became its store.
-use Prim.Native.Nat.{ℕ, _*_, _≤_}
+use Prim.Native.Nat.{ℕ, _*_}
 use mathlib.Core.Path.{_≡_, sym, ap, _∙_}
-use mathlib.Core.Bool.{not}
 use mathlib.Core.List.{List}
 use lib.ListN.{length, take}
-use lib.Dec.{T}
-use Rattle.words.specs.Links.{linksChanged}
 use Rattle.settings.specs.declared.Settings.{Settings}
 use Rattle.stack.specs.Stack.{Work, Answer}
 use Rattle.stack.specs.Entries.{Cache, entryStep, Pick}
 use Rattle.layout.specs.Sound.{totalsIn, residentsIn, view}
-use Rattle.promises.specs.Promises.{halved}
 use Rattle.promises.specs.DirectoryPromises.{Kept}
 use Rattle.promises.specs.Demand3.{Memory}
-use Rattle.cache_steps.specs.Carried.{cacheOf, settingsOf, memory, Ready, bounded, Carried}
+use Rattle.cache_steps.specs.Carried.{cacheOf, settingsOf, memory, Ready, LinksKept, Carried}
 use Rattle.cache_steps.specs.MovedLaws.{Moved}
 
 -- the cache with these settings, the residents and totals of a directory, this front of data and this store
@@ -47,7 +43,7 @@ module _ (m : Memory) (ready : Ready m) (directory bytes store : List ℕ) (kept
     pub carry : (w : Work) (incoming : List ℕ) (answer : Answer) (given : List ℕ) (pick : ℕ) → Pick (cacheOf m) w pick
         → entryStep (cacheOf m) (w, pick) incoming
         ≡ record { after = cacheWith (settingsOf m) directory first-bytes store; answer = answer; given = given }
-        → (T (bounded w) → T (not (halved answer)) → linksChanged (m .directory) directory ≤ 20)
+        → LinksKept w answer (m .directory) directory
         → Carried m w incoming (memory directory bytes store) answer given
     carry w incoming answer given pick picked step-is links =
         record {
@@ -63,5 +59,5 @@ module _ (m : Memory) (ready : Ready m) (directory bytes store : List ℕ) (kept
           bytes-past = in-bytes .past;
           bytes-same = in-bytes .same;
           store-same = store-same;
-          links-few = links;
+          links = links;
         }

@@ -3,7 +3,7 @@ use Prim.Native.Nat.{ℕ, _+_, _*_, _≤_, _<_}
 use native.Mathlib.Omega.{arith}
 use mathlib.Core.Path.{_≡_, sym, ap, _∙_}
 use mathlib.Core.List.{List, _++_, append-assoc}
-use lib.ListN.{length, take, drop, length-drop, take-append-drop}
+use lib.ListN.{length, take, drop, take-append-drop}
 use lib.Seq.{length-take-le, take-at, drop-at, take-append-le, drop-append-le, take-add}
 use Rattle.basics.specs.Basics.{blockAt, putBlock}
 use Rattle.stack.specs.BufferLaws.{block-ends, length-putBlock}
@@ -11,11 +11,6 @@ use Rattle.stack.specs.BufferLaws.{block-ends, length-putBlock}
 -- ---- a block within the first of two parts
 
 module _ (B i : ℕ) (u v : List ℕ) (h : i * B + B ≤ length u) where
-  block-append : blockAt B i (u ++ v) ≡ blockAt B i u
-  block-append =
-      ap (take B) (drop-append-le (i * B) u v (omega arith))
-      ∙ take-append-le B (drop (i * B) u) v (simp length-drop (omega arith))
-
   put-append : (bytes : List ℕ) → putBlock B i bytes (u ++ v) ≡ putBlock B i bytes u ++ v
   put-append bytes =
       let g : i * B ≤ length u = omega arith in
@@ -36,9 +31,6 @@ module _ (B i n : ℕ) (buffer : List ℕ) (h : i < n) (long : n * B ≤ length 
   -- such a block ends within the buffer
   pub block-room : i * B + B ≤ length buffer
   block-room = let g = block-ends B i n h in omega arith
-
-  pub block-front : blockAt B i (take (n * B) buffer) ≡ blockAt B i buffer
-  block-front = sym (block-append B i front rest front-holds) ∙ ap (blockAt B i) (take-append-drop (n * B) buffer)
 
   module _ (bytes : List ℕ) (sized : length bytes ≡ B) where
     parts : putBlock B i bytes buffer ≡ putBlock B i bytes front ++ rest

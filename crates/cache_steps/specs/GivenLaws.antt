@@ -10,7 +10,7 @@ use lib.Seq.{length-take-le}
 use Rattle.basics.specs.Basics.{All, total}
 use Rattle.settings.specs.declared.Settings.{Settings}
 use Rattle.stack.specs.Recency.{Resident, Place, lookup}
-use Rattle.stack.specs.Stack.{Stack, Work, read, write, purge, flush, invalid, Answer, leaving, savedAll, access, purging, flushing, step}
+use Rattle.stack.specs.Stack.{Stack, Work, read, write, purge, flush, tick, invalid, Answer, leaving, savedAll, access, purging, flushing, step}
 use Rattle.stack.specs.Batch.{isRead, howMany}
 use Rattle.stack.specs.Entries.{entryBytes, entryFor, entryStep}
 use Rattle.stack.specs.ForgetLaws.{InStore, length-savedAll}
@@ -52,6 +52,7 @@ module _ (m : Memory) (ready : Ready m) (pick : ℕ) (incoming : List ℕ) where
   step-gives (write b) inside = sym (zero-mul (s .b))
   step-gives (purge b) inside = purging-gives (entryBytes (s .b) bytes) (λ q bytes. entryFor pick q) (cacheOf m .stack) b (lookup b (residentsIn (m .directory))) ∙ sym (zero-mul (s .b))
   step-gives flush inside = sym (zero-mul (s .b))
+  step-gives tick inside = sym (zero-mul (s .b))
   step-gives invalid inside = sym (zero-mul (s .b))
 
 pub carried-gives : {m m₁ : Memory} {w : Work} {incoming : List ℕ} {a : Answer} {given : List ℕ} → Ready m → InStore (settingsOf m .m) w

@@ -6,12 +6,12 @@ use mathlib.Core.List.{List, [], _∷_}
 use lib.ListN.{length, take, drop}
 use Rattle.basics.specs.Basics.{All, if_then_else_, putBlock}
 use Rattle.settings.specs.declared.Settings.{Settings}
-use Rattle.stack.specs.BufferLaws.{length-blockAt, length-putBlock}
+use Rattle.stack.specs.BufferLaws.{block-ends, block-front, length-blockAt, length-putBlock}
 use Rattle.stack.specs.Recency.{Resident, Place, found, unused, replacing}
 use Rattle.stack.specs.Stack.{leaving, saved, savedAll, present}
 use Rattle.stack.specs.Entries.{entryBytes}
 use Rattle.stack.specs.EntriesLaws.{Fit}
-use Rattle.cache_steps.specs.FrontLaws.{block-room, block-front, put-front, put-past}
+use Rattle.cache_steps.specs.FrontLaws.{block-room, put-front, put-past}
 
 -- the resident that a place names, if it names one, has an entry within 1 to N and a block below M
 abbrev pub Stands : Settings → Place ℕ → Type 0
@@ -62,7 +62,7 @@ module _ (s : Settings) (bytes : List ℕ) (long : s .n * s .b ≤ length bytes)
   entry-length e h g = length-blockAt B (e - 1) bytes (entry-room e h g)
 
   entry-front : (e : ℕ) → 1 ≤ e → e ≤ s .n → front e ≡ whole e
-  entry-front e h g = block-front B (e - 1) (s .n) bytes (omega arith) long
+  entry-front e h g = block-front B (e - 1) (s .n * B) bytes (block-ends B (e - 1) (s .n) (omega arith))
 
   -- ---- residents written out
 
@@ -72,7 +72,7 @@ module _ (s : Settings) (bytes : List ℕ) (long : s .n * s .b ≤ length bytes)
   saved-front [] a store = refl
   saved-front (x ∷ l) a store =
       let same = entry-front (x .held) (a .0 .least) (a .0 .most) in
-      saved-front l (a .1) _ ∙ ap (λ by. savedAll whole B l (if x .modified then putBlock B (x .block) by store else store)) same
+      saved-front l (a .1) _ ∙ ap (λ by. savedAll whole B l (if x .marks .modified then putBlock B (x .block) by store else store)) same
 
   -- ---- the bytes of a block: its resident's, or the store's
 

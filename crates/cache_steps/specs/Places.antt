@@ -44,7 +44,7 @@ module _ (d : List ℕ) (ok : T (sound d)) (b : ℕ) where
 pub store-room : (m : Memory) → Ready m → (b : ℕ) → b < settingsOf m .m → b * settingsOf m .b + settingsOf m .b ≤ length (m .store)
 store-room m ready b inside = block-room (settingsOf m .b) b (settingsOf m .m) (m .store) inside (ready .store-long)
 
--- ---- residents by position, as a flush or a purge finds them
+-- ---- residents by position, as a flush, a tick or a purge finds them
 
 -- the resident at a position, by its entry
 pub at-entry : (w : List ℕ) (p : ℕ) (x : Resident ℕ) → getElem? (residentsIn w) p ≡ some x → x ≡ residentAt w (x .held)

@@ -33,12 +33,12 @@ module _ (m : Memory) (ready : Ready m) (b : ℕ) (incoming : List ℕ) where
   looked-up at = ap purgedWith at
 
   pub purge-carried : {k : ℕ} {modified : Bool} {d : List ℕ} {x : Resident ℕ} → Purged k (m .directory) b d
-      → lookup b (residentsIn (m .directory)) ≡ some x → x .modified ≡ modified → k ≤ 20
+      → lookup b (residentsIn (m .directory)) ≡ some x → x .marks .modified ≡ modified → k ≤ 20
       → Carried m (purge b) incoming (memory d (m .bytes) (m .store)) (purged modified) []
   unfolding purging view
   purge-carried {modified = modified} {d = d} {x = x} gone at mark few =
       carry m ready d (m .bytes) (m .store) (gone .kept) (unmoved (s .n * s .b) (m .bytes)) refl (purge b) incoming (purged modified) [] 0 tt
-      (looked-up at ∙ leaves) (λ bound calm. let h = gone .links-few in omega arith)
+      (looked-up at ∙ leaves) (record { few = λ calm. let h = gone .links-few in omega arith; none = λ still. absurd still })
     where
       leaves : purgedWith (some x)
           ≡ record { after = cacheWith s d (take (s .n * s .b) (m .bytes)) (m .store); answer = purged modified; given = [] }
@@ -59,4 +59,4 @@ module _ (m : Memory) (ready : Ready m) (b : ℕ) (incoming : List ℕ) where
   absent-carried at =
       carry m ready (m .directory) (m .bytes) (m .store) (record { sound-after = ready .is-sound; settings-kept = refl; past-kept = refl })
       (unmoved (s .n * s .b) (m .bytes)) refl (purge b) incoming absent [] 0 tt
-      (looked-up at) (λ bound calm. rw (changed-same (m .directory)) (omega arith))
+      (looked-up at) (record { few = λ calm. rw (changed-same (m .directory)) (omega arith); none = λ still. absurd still })

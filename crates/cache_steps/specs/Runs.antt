@@ -17,9 +17,9 @@ use Rattle.settings.specs.Buckets.{directoryLength}
 use Rattle.stack.specs.Stack.{Work, Answer, Step}
 use Rattle.stack.specs.Batch.{work, isWrite, howMany, Ran, run}
 use Rattle.stack.specs.Entries.{Cache, entryStep, Picks}
-use Rattle.promises.specs.Promises.{halved}
+use Rattle.promises.specs.Promises.{halved, isStill}
 use Rattle.promises.specs.Demand3.{Memory}
-use Rattle.cache_steps.specs.Carried.{cacheOf, settingsOf, Ready, bounded, Carried}
+use Rattle.cache_steps.specs.Carried.{cacheOf, settingsOf, Ready, Carried}
 
 -- ---- words one after the other
 
@@ -65,7 +65,8 @@ pub record AllCarried (B : ℕ) (before : Memory) (ws : List Work) (incoming : L
   pub bytes-same : length (after .bytes) ≡ length (before .bytes)
   pub store-same : length (after .store) ≡ length (before .store)
   -- one word alone
-  pub links-few : (w : Work) → ws ≡ w ∷ [] → T (bounded w) → All (λ a. T (not (halved a))) answers → linksChanged (before .directory) (after .directory) ≤ 20
+  pub links-few : (w : Work) → ws ≡ w ∷ [] → All (λ a. T (not (halved a))) answers → linksChanged (before .directory) (after .directory) ≤ 20
+  pub links-none : (w : Work) → ws ≡ w ∷ [] → T (isStill w) → linksChanged (before .directory) (after .directory) ≡ 0
 
 pub chain-ready : {B : ℕ} {m m₁ : Memory} {ws : List Work} {incoming : List ℕ} {answers : List Answer} {given : List ℕ} → Chain B m ws incoming m₁ answers given → Ready m → Ready m₁
 chain-ready end r = r
@@ -90,11 +91,16 @@ module _ (B : ℕ) (incoming : List ℕ) {m m₁ m₂ : Memory} {w : Work} {ws :
   abbrev later : List ℕ
   later = drop (isWrite w * B) incoming
 
-  all-links : (w₀ : Work) → w ∷ ws ≡ w₀ ∷ [] → T (bounded w₀) → All (λ x. T (not (halved x))) (a ∷ answers) → linksChanged (m .directory) (m₂ .directory) ≤ 20
-  all-links w₀ e bound calm =
+  all-few : (w₀ : Work) → w ∷ ws ≡ w₀ ∷ [] → All (λ x. T (not (halved x))) (a ∷ answers) → linksChanged (m .directory) (m₂ .directory) ≤ 20
+  all-few w₀ e calm =
       let none : ws ≡ [] = cc in
-      let same : w₀ ≡ w = cc in
-      subst (λ x. linksChanged (m .directory) (x .directory) ≤ 20) (only none) (c .links-few (subst (λ x. T (bounded x)) same bound) (calm .0))
+      subst (λ x. linksChanged (m .directory) (x .directory) ≤ 20) (only none) (c .links .few (calm .0))
+
+  all-none : (w₀ : Work) → w ∷ ws ≡ w₀ ∷ [] → T (isStill w₀) → linksChanged (m .directory) (m₂ .directory) ≡ 0
+  all-none w₀ e still =
+      let none : ws ≡ [] = cc in
+      let same : w ≡ w₀ = cc in
+      subst (λ x. linksChanged (m .directory) (x .directory) ≡ 0) (only none) (c .links .none (subst (λ x. T (isStill x)) (sym same) still))
 
   all-next : AllCarried B m (w ∷ ws) incoming m₂ (a ∷ answers) (g ++ given)
   unfolding run
@@ -111,7 +117,8 @@ module _ (B : ℕ) (incoming : List ℕ) {m m₁ m₂ : Memory} {w : Work} {ws :
         bytes-past = rw (c .settings-kept) at (rest .bytes-past) ∙ c .bytes-past;
         bytes-same = rest .bytes-same ∙ c .bytes-same;
         store-same = rest .store-same ∙ c .store-same;
-        links-few = all-links;
+        links-few = all-few;
+        links-none = all-none;
       }
 
 pub all-carried : {B : ℕ} {m m₁ : Memory} {ws : List Work} {incoming : List ℕ} {answers : List Answer} {given : List ℕ} → Chain B m ws incoming m₁ answers given → AllCarried B m ws incoming m₁ answers given
@@ -127,6 +134,7 @@ all-carried end =
       bytes-past = refl;
       bytes-same = refl;
       store-same = refl;
-      links-few = λ w e bound calm. let z : _≡_ {A = ℕ} 0 1 = cc in absurd (omega arith);
+      links-few = λ w e calm. let z : _≡_ {A = ℕ} 0 1 = cc in absurd (omega arith);
+      links-none = λ w e still. let z : _≡_ {A = ℕ} 0 1 = cc in absurd (omega arith);
     }
 all-carried {B} {incoming = incoming} (next c rest) = all-next B incoming c (λ e. none-carried rest e .0) (all-carried rest)

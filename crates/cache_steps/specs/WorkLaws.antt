@@ -1,16 +1,18 @@
 -- Work words that are not invalid, by their kind, as the loop over them tells them apart.
 use Prim.Native.Nat.{ℕ, _/_, _%_, _^_, _<_}
 use native.Mathlib.Omega.{arith}
+use native.Mathlib.Decide.{ℕ-discrete}
 use mathlib.Core.Path.{_≡_, refl}
 use mathlib.Core.Logic.{_≢_}
 use mathlib.Core.Bool.{Bool, true, false, _&&_}
 use lib.Dec.{T, ltb, eqb}
-use borrow.Author.Tests.{ne-eqb}
+use borrow.Author.Tests.{eq-eqb, ne-eqb, eqb-true}
 use mir.Facts.{ltb-yes}
 use Rattle.basics.specs.Basics.{if_then_else_}
 use Rattle.settings.specs.declared.Settings.{Settings}
-use Rattle.stack.specs.Stack.{Work, read, write, purge, flush, invalid}
+use Rattle.stack.specs.Stack.{Work, read, write, purge, flush, tick, invalid}
 use Rattle.stack.specs.Batch.{work, isInvalid}
+use Rattle.cache_steps.specs.FlushLists.{sweep}
 
 -- a word that is x where its test passes, else invalid
 valid-is : (x : Work) (t : Bool) → isInvalid (if t then x else invalid) ≡ 0 → ((if t then x else invalid) ≡ x) × T t
@@ -30,7 +32,17 @@ module _ (s : Settings) (w : ℕ) where
   unfolding work
   work-purge kind = rw kind (λ e. let g = valid-is (purge (w % 2 ^ 28)) (ltb (w % 2 ^ 28) (s .m)) e in (g .0, ltb-yes (g .1)))
 
-  -- what is none of these
-  pub work-flush : w / 2 ^ 28 ≢ 1 → w / 2 ^ 28 ≢ 2 → w / 2 ^ 28 ≢ 3 → isInvalid (work s w) ≡ 0 → work s w ≡ flush
+  -- what is none of these: a flush, or a tick where its kind is 5
+  pub work-flush : w / 2 ^ 28 ≢ 1 → w / 2 ^ 28 ≢ 2 → w / 2 ^ 28 ≢ 3 → isInvalid (work s w) ≡ 0 → work s w ≡ sweep (eqb (w / 2 ^ 28) 5)
   unfolding work
-  work-flush a b c = rw (ne-eqb (w / 2 ^ 28) 1 a, ne-eqb (w / 2 ^ 28) 2 b, ne-eqb (w / 2 ^ 28) 3 c) (λ e. valid-is flush (eqb (w / 2 ^ 28) 4 && eqb (w % 2 ^ 28) 0) e .0)
+  work-flush a b c =
+      rw (ne-eqb (w / 2 ^ 28) 1 a, ne-eqb (w / 2 ^ 28) 2 b, ne-eqb (w / 2 ^ 28) 3 c)
+      (go (ℕ-discrete (w / 2 ^ 28) 4) (eqb (w / 2 ^ 28) 5) (eqb (w % 2 ^ 28) 0) refl)
+    where
+      go : Dec (w / 2 ^ 28 ≡ 4) → (k v : Bool) → eqb (w / 2 ^ 28) 5 ≡ k
+          → isInvalid (if eqb (w / 2 ^ 28) 4 && v then flush else if k && v then tick else invalid) ≡ 0
+          → (if eqb (w / 2 ^ 28) 4 && v then flush else if k && v then tick else invalid) ≡ sweep k
+      go (yes q) true v is = absurd (omega (arith, q, eqb-true (w / 2 ^ 28) 5 is))
+      go (yes q) false v is = rw (eq-eqb (w / 2 ^ 28) 4 q) (λ e. valid-is flush v e .0)
+      go (no q) true v is = rw (ne-eqb (w / 2 ^ 28) 4 q) (λ e. valid-is tick v e .0)
+      go (no q) false v is = rw (ne-eqb (w / 2 ^ 28) 4 q) (λ e. absurd (omega arith))

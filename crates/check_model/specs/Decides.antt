@@ -1,14 +1,14 @@
 -- The check is the definition.
 -- Assumes nothing.
-use Prim.Native.Nat.{ℕ, _+_, _-_, _*_, _≤_}
-use mathlib.Core.Path.{_≡_, refl, sym, subst}
+use Prim.Native.Nat.{ℕ, _+_, _-_, _*_, _%_, _≤_}
+use mathlib.Core.Path.{_≡_, refl, sym, ap, subst}
 use mathlib.Core.Bool.{Bool, true, false}
 use mathlib.Core.List.{List, [], _∷_, _++_, map}
 use native.Mathlib.Omega.{arith}
 use lib.ListN.{length, getD, replicate}
 use lib.Dec.{T, leb, ltb, eqb, eqb→eq}
 use mir.Facts.{yes-eqb, ltb-no, no-ltb, leb-yes, yes-leb}
-use Rattle.basics.specs.Basics.{All, pick, total}
+use Rattle.basics.specs.Basics.{All, pick, bit, total}
 use Rattle.basics.specs.Lists.{every, all, distinct, counting}
 use Rattle.basics.specs.ListLaws.{every-yes, yes-every}
 use Rattle.basics.specs.AllLaws.{all-map, all-join, all-left, all-right}
@@ -18,8 +18,10 @@ use Rattle.settings.specs.Numbers.{settingsNumber}
 use Rattle.settings.specs.NumbersLaws.{legal-settings}
 use Rattle.settings.specs.Buckets.{buckets}
 use Rattle.layout.specs.Addresses.{CACHE-BLOCKS, NEW-BLOCKS, OLD-BLOCKS, CHAIN-LIMIT, AVERAGE-LIMIT, STORE-BLOCKS, RESIDENTS, SUM, HEAD, TAIL, NEW-BOUNDARY, OLD-BOUNDARY, UNUSED, BLANK-14, BLANK-15, READS, WRITES, INS, OUTS, BLOCK, COUNT, MODIFIED}
+use Rattle.layout.specs.ModifiedWord.{marksIn, isModifiedWord}
+use Rattle.layout.specs.ModifiedWordLaws.{word-bit}
 use Rattle.layout.specs.Sound.{field, sectionsRight, settingsIn, totalsIn, chainRight, bucketRight, stackTests, residentTests, chainTests, sound}
-use Rattle.check_model.specs.Tests.{headOf, tailOf, firstOf, kindsOk, stackOk, unusedOk, fieldsOk, chainsOk, bucketsFrom, numbersTest, totalsTest, totalOf, listsTest, soundTest}
+use Rattle.check_model.specs.Tests.{headOf, tailOf, firstOf, kindsOk, stackOk, unusedOk, fieldsOk, chainsOk, bucketsFrom, numbersTest, totalsTest, markBit, totalOf, listsTest, soundTest}
 use Rattle.check_model.specs.Bools.{same-truth, pick-yes, yes-pick, pick-no, no-pick}
 use Rattle.check_model.specs.Runs.{fieldsOn, fields-run, chainsOn, chains-run}
 use Rattle.check_model.specs.Along.{fw}
@@ -28,6 +30,13 @@ use Rattle.check_model.specs.Fields.{Good, Sections, fields-read, fields
 use Rattle.check_model.specs.Chains.{looseAt, chains-sound, sound-chains}
 use Rattle.check_model.specs.Listing.{buckets-sound, sound-buckets}
 use Rattle.check_model.specs.Kinds.{kinds-same}
+
+-- how many of a list are modified, as the definition says it
+abbrev said : List ℕ → List ℕ → ℕ
+said w xs = total (map (λ e. bit (marksIn (field w MODIFIED e) .modified)) xs)
+
+said-is : (w xs : List ℕ) → said w xs ≡ total (map (markBit (field w)) xs)
+said-is w xs = ap (λ g. total (map g xs)) (λ i e. word-bit (field w MODIFIED e) i)
 
 module _ (w : List ℕ) where
   abbrev nb : ℕ
@@ -129,7 +138,7 @@ module _ (w : List ℕ) where
     tests = stackTests w ++ (residentTests w ++ chainTests w)
 
     residents-there : (l : Lists w) (p : Passed) → All (Good (fw w) (val w STORE-BLOCKS)) (l .xs) → Sections (fw w) (val w NEW-BLOCKS) (val w CACHE-BLOCKS - val w OLD-BLOCKS) 0 (l .xs) → Distinct (map (fw w BLOCK) (l .xs)) → All T (residentTests w)
-    unfolding residentTests settingsIn
+    unfolding residentTests isModifiedWord settingsIn
     residents-there l p g s d =
         let n = numbers-read w (l .xs) (l .fwd) (l .many) (l .some) (p .numbers) in
         let q = good-sound w (l .xs) (l .some) g in
@@ -166,7 +175,7 @@ module _ (w : List ℕ) where
         )
 
     chains-there : (l : Lists w) (p : Passed) → T (all (bucketRight w) (counting 0 nb)) → All T (chainTests w)
-    unfolding chainTests settingsIn totalsIn totalOf
+    unfolding chainTests marksIn settingsIn totalsIn totalOf
     chains-there l p b =
         let k = chains-sound w (l .xs) (order-is w l) (l .some) (short l) small (subst T (chains-on l) (p .chains)) in
         let t = totals-read w (p .totals) in
@@ -179,7 +188,8 @@ module _ (w : List ℕ) where
               (
                 yes-leb {a = totalOf w INS} {b = totalOf w READS} (t .0),
                 (
-                  yes-leb {a = totalOf w OUTS + total (map (field w MODIFIED) (l .xs))} {b = totalOf w WRITES} (rw (← sum-is w (l .xs) (l .fwd) (l .many) (l .some) 3) (t .1)),
+                  yes-leb {a = totalOf w OUTS + said w (l .xs)} {b = totalOf w WRITES}
+                      (rw (said-is w (l .xs), ← sum-is w (l .xs) (l .fwd) (l .many) (l .some) (λ n. n % 2) 3) (t .1)),
                   tt,
                 ),
               ),
@@ -199,7 +209,7 @@ module _ (w : List ℕ) where
 
     residents-back : (l : Lists w) → All T (residentTests w)
         → All (Good (fw w) (val w STORE-BLOCKS)) (l .xs) × Sections (fw w) (val w NEW-BLOCKS) (val w CACHE-BLOCKS - val w OLD-BLOCKS) 0 (l .xs) × Distinct (map (fw w BLOCK) (l .xs)) × Numbers w (l .xs) (l .fwd) (l .many) (l .some)
-    unfolding residentTests settingsIn
+    unfolding residentTests isModifiedWord settingsIn
     residents-back l h =
         let xs : List ℕ = l .xs in
         let r : All T (distinct (map (field w BLOCK) xs) ∷ all (blockAt w) xs ∷ all (countAt w) xs ∷ all (markAt w) xs ∷ eqb (val w SUM) (total (map (field w COUNT) xs)) ∷ sectionsRight w 0 xs ∷ eqb (val w NEW-BOUNDARY) (getD xs (val w NEW-BLOCKS) 0) ∷ eqb (val w OLD-BOUNDARY) (getD xs (val w CACHE-BLOCKS - val w OLD-BLOCKS) 0) ∷ eqb (val w BLANK-14 + val w BLANK-15) 0 ∷ leb (total (map (field w COUNT) xs)) (val w AVERAGE-LIMIT * val w CACHE-BLOCKS) ∷ []) = rw (order-is w l) at h in
@@ -218,16 +228,28 @@ module _ (w : List ℕ) where
         )
 
     chains-back : (l : Lists w) → All T (chainTests w)
-        → T (all (chainRight w) (counting 1 (val w CHAIN-LIMIT))) × T (all (looseAt w (l .xs) (order-is w l) (l .some) (short l)) (l .xs)) × T (all (bucketRight w) (counting 0 nb)) × (totalOf w INS ≤ totalOf w READS) × (totalOf w OUTS + total (map (field w MODIFIED) (l .xs)) ≤ totalOf w WRITES)
-    unfolding chainTests settingsIn totalsIn totalOf
+        → T (all (chainRight w) (counting 1 (val w CHAIN-LIMIT)))
+        × T (all (looseAt w (l .xs) (order-is w l) (l .some) (short l)) (l .xs))
+        × T (all (bucketRight w) (counting 0 nb))
+        × (totalOf w INS ≤ totalOf w READS)
+        × (totalOf w OUTS + total (map (markBit (field w)) (l .xs)) ≤ totalOf w WRITES)
+    unfolding chainTests marksIn settingsIn totalsIn totalOf
     chains-back l h =
         let xs : List ℕ = l .xs in
-        let r : All T (all (chainRight w) (counting 1 (val w CHAIN-LIMIT)) ∷ all (looseAt w xs (order-is w l) (l .some) (short l)) xs ∷ all (bucketRight w) (counting 0 nb) ∷ leb (totalOf w INS) (totalOf w READS) ∷ leb (totalOf w OUTS + total (map (field w MODIFIED) xs)) (totalOf w WRITES) ∷ []) = rw (order-is w l) at h in (
+        let r : All T (
+        all (chainRight w) (counting 1 (val w CHAIN-LIMIT))
+        ∷ all (looseAt w xs (order-is w l) (l .some) (short l)) xs
+        ∷ all (bucketRight w) (counting 0 nb)
+        ∷ leb (totalOf w INS) (totalOf w READS)
+        ∷ leb (totalOf w OUTS + said w xs) (totalOf w WRITES)
+        ∷ []
+        ) =
+        rw (order-is w l) at h in (
           r .0,
           r .1 .0,
           r .1 .1 .0,
           leb-yes {a = totalOf w INS} {b = totalOf w READS} (r .1 .1 .1 .0),
-          leb-yes {a = totalOf w OUTS + total (map (field w MODIFIED) xs)} {b = totalOf w WRITES} (r .1 .1 .1 .1 .0),
+          rw (said-is w xs) at (leb-yes {a = totalOf w OUTS + said w xs} {b = totalOf w WRITES} (r .1 .1 .1 .1 .0)),
         )
 
     back : T (every tests) → Passed
@@ -246,7 +268,7 @@ module _ (w : List ℕ) where
           numbers = numbers-write w xs (l .fwd) (l .many) (l .some) (r .3);
           chains = subst T (sym (chains-on l)) (sound-chains w xs (order-is w l) (l .some) (short l) small (counts xs (r .0)) (k .0) (k .1));
           buckets = sound-buckets w l (counts xs (r .0)) (r .2) (k .2);
-          totals = totals-write w (k .3) (rw (sum-is w xs (l .fwd) (l .many) (l .some) 3) (k .4));
+          totals = totals-write w (k .3) (rw (sum-is w xs (l .fwd) (l .many) (l .some) (λ n. n % 2) 3) (k .4));
         }
 
     lists-same : listsTest w (val w CACHE-BLOCKS) (val w NEW-BLOCKS) (val w OLD-BLOCKS) (val w CHAIN-LIMIT) (val w AVERAGE-LIMIT) (val w STORE-BLOCKS) nb ≡ every tests

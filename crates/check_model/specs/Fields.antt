@@ -21,8 +21,9 @@ use Rattle.links.specs.Run.{Run}
 use Rattle.words.specs.Words.{val}
 use Rattle.stack.specs.Counts.{section}
 use Rattle.layout.specs.Addresses.{CACHE-BLOCKS, NEW-BLOCKS, OLD-BLOCKS, AVERAGE-LIMIT, STORE-BLOCKS, RESIDENTS, SUM, HEAD, NEW-BOUNDARY, OLD-BOUNDARY, BLANK-14, BLANK-15, READS, WRITES, INS, OUTS, BLOCK, COUNT, SECTION, MODIFIED, TO-TAIL}
+use Rattle.layout.specs.ModifiedWord.{isModifiedWord}
 use Rattle.layout.specs.Sound.{field, sectionsRight, settingsIn}
-use Rattle.check_model.specs.Tests.{sectionAt, fieldTest, nthOf, atPosition, sumOf, totalOf, numbersTest, totalsTest}
+use Rattle.check_model.specs.Tests.{sectionAt, fieldTest, nthOf, atPosition, markBit, sumOf, totalOf, numbersTest, totalsTest}
 use Rattle.check_model.specs.Bools.{pick-yes, yes-pick, pick-no, no-pick}
 use Rattle.check_model.specs.Runs.{fieldsOn, sum-run, nth-run}
 use Rattle.check_model.specs.Along.{fw, field-is}
@@ -40,7 +41,7 @@ pub record Good (f : ℕ → ℕ → ℕ) (m e : ℕ) : Type 0 where
   pub block : f BLOCK e < m
   pub count : 1 ≤ f COUNT e
   pub most : f COUNT e ≤ 65535
-  pub mark : f MODIFIED e ≤ 1
+  pub mark : T (isModifiedWord (f MODIFIED e))
 
 abbrev pub Sections : (ℕ → ℕ → ℕ) → ℕ → ℕ → ℕ → List ℕ → Type 0
 Sections f new mid p [] = Unit {0}
@@ -51,24 +52,24 @@ module _ (f : ℕ → ℕ → ℕ) (m new mid : ℕ) where
   unfolding fieldTest
   field-read e p h =
       let t3 : Bool = eqb (f SECTION e) (sectionAt new mid p) in
-      let t2 : Bool = pick (ltb 1 (f MODIFIED e)) false t3 in
+      let t2 : Bool = pick (isModifiedWord (f MODIFIED e)) t3 false in
       let t1 : Bool = pick (ltb 65535 (f COUNT e)) false t2 in
       let a = pick-yes (ltb (f BLOCK e) m) (pick (ltb (f COUNT e) 1) false t1) h in
       let b = pick-no (ltb (f COUNT e) 1) t1 (a .1) in
       let c = pick-no (ltb 65535 (f COUNT e)) t2 (b .1) in
-      let d = pick-no (ltb 1 (f MODIFIED e)) t3 (c .1) in
-      (record { block = ltb-yes (a .0); count = ltb-no (b .0); most = ltb-no (c .0); mark = ltb-no (d .0) }, eqb→eq (f SECTION e) (sectionAt new mid p) (d .1))
+      let d = pick-yes (isModifiedWord (f MODIFIED e)) t3 (c .1) in
+      (record { block = ltb-yes (a .0); count = ltb-no (b .0); most = ltb-no (c .0); mark = d .0 }, eqb→eq (f SECTION e) (sectionAt new mid p) (d .1))
 
   field-write : (e p : ℕ) → Good f m e → f SECTION e ≡ sectionAt new mid p → T (fieldTest f m new mid e p)
   unfolding fieldTest
   field-write e p g s =
       let t3 : Bool = eqb (f SECTION e) (sectionAt new mid p) in
-      let t2 : Bool = pick (ltb 1 (f MODIFIED e)) false t3 in
+      let t2 : Bool = pick (isModifiedWord (f MODIFIED e)) t3 false in
       let t1 : Bool = pick (ltb 65535 (f COUNT e)) false t2 in
       yes-pick (ltb (f BLOCK e) m) (pick (ltb (f COUNT e) 1) false t1) (yes-ltb (g .block))
       (no-pick (ltb (f COUNT e) 1) t1 (no-ltb (g .count))
       (no-pick (ltb 65535 (f COUNT e)) t2 (no-ltb (g .most))
-      (no-pick (ltb 1 (f MODIFIED e)) t3 (no-ltb (g .mark)) (yes-eqb s))))
+      (yes-pick (isModifiedWord (f MODIFIED e)) t3 (g .mark) (yes-eqb s))))
 
   pub fields-read : (xs : List ℕ) (p : ℕ) → T (fieldsOn f m new mid xs p) → All (Good f m) xs × Sections f new mid p xs
   unfolding fieldsOn
@@ -121,7 +122,7 @@ module _ (w : List ℕ) where
   countAt e = within 1 65535 (field w COUNT e)
 
   abbrev pub markAt : ℕ → Bool
-  markAt e = leb (field w MODIFIED e) 1
+  markAt e = isModifiedWord (field w MODIFIED e)
 
   count-yes : (e : ℕ) → ¬ (e ≡ 0) → Good (fw w) (val w STORE-BLOCKS) e → T (countAt e)
   count-yes e z g = rw (field-is w 1 e z) (yes-and (leb 1 (fw w COUNT e)) (leb (fw w COUNT e) 65535) (yes-leb (g .count)) (yes-leb (g .most)))
@@ -131,16 +132,15 @@ module _ (w : List ℕ) where
   good-sound xs o g = (
     yes-all blockAt xs (all-some (Good (fw w) (val w STORE-BLOCKS)) (λ e. T (blockAt e)) xs o (λ e z h. rw (field-is w 0 e z) (yes-ltb (h .block))) g),
     yes-all countAt xs (all-some (Good (fw w) (val w STORE-BLOCKS)) (λ e. T (countAt e)) xs o count-yes g),
-    yes-all markAt xs (all-some (Good (fw w) (val w STORE-BLOCKS)) (λ e. T (markAt e)) xs o (λ e z h. rw (field-is w 3 e z) (yes-leb (h .mark))) g),
+    yes-all markAt xs (all-some (Good (fw w) (val w STORE-BLOCKS)) (λ e. T (markAt e)) xs o (λ e z h. rw (field-is w 3 e z) (h .mark)) g),
   )
 
   good-one : (e : ℕ) → ¬ (e ≡ 0) → T (blockAt e) × T (countAt e) × T (markAt e) → Good (fw w) (val w STORE-BLOCKS) e
   good-one e z h =
       let b : T (ltb (fw w BLOCK e) (val w STORE-BLOCKS)) = rw (field-is w 0 e z) at (h .0) in
       let c : T (within 1 65535 (fw w COUNT e)) = rw (field-is w 1 e z) at (h .1) in
-      let m : T (leb (fw w MODIFIED e) 1) = rw (field-is w 3 e z) at (h .2) in
       let q = and-yes (leb 1 (fw w COUNT e)) (leb (fw w COUNT e) 65535) c in
-      record { block = ltb-yes b; count = leb-yes (q .0); most = leb-yes (q .1); mark = leb-yes m }
+      record { block = ltb-yes b; count = leb-yes (q .0); most = leb-yes (q .1); mark = rw (field-is w 3 e z) at (h .2) }
 
   pub sound-good : (xs : List ℕ) → Off 0 xs → T (all blockAt xs) → T (all countAt xs) → T (all markAt xs) → All (Good (fw w) (val w STORE-BLOCKS)) xs
   sound-good xs o b c m =
@@ -150,24 +150,25 @@ module _ (w : List ℕ) where
       (all-both (λ e. T (countAt e)) (λ e. T (markAt e)) xs (all-yes countAt xs c) (all-yes markAt xs m))))
 
   -- the field of every entry of a list
-  pub map-field : (j : ℕ) (xs : List ℕ) → Off 0 xs → map (field w j) xs ≡ map (fw w j) xs
-  map-field j [] o = refl
-  map-field j (x ∷ xs) o = ap₂ _∷_ (field-is w j x (λ c. o .0 (sym c))) (map-field j xs (o .1))
+  pub map-field : (k : ℕ → ℕ) (j : ℕ) (xs : List ℕ) → Off 0 xs → map (λ e. k (field w j e)) xs ≡ map (λ e. k (fw w j e)) xs
+  map-field k j [] o = refl
+  map-field k j (x ∷ xs) o = ap₂ _∷_ (ap k (field-is w j x (λ c. o .0 (sym c)))) (map-field k j xs (o .1))
 
   -- ---- blocks: all different
 
   pub blocks-sound : (xs : List ℕ) → Off 0 xs → Distinct (map (fw w BLOCK) xs) → T (distinct (map (field w BLOCK) xs))
-  blocks-sound xs o d = rw (map-field BLOCK xs o) (yes-distinct (map (fw w BLOCK) xs) d)
+  blocks-sound xs o d = rw (map-field (λ n. n) BLOCK xs o) (yes-distinct (map (fw w BLOCK) xs) d)
 
   pub sound-blocks : (xs : List ℕ) → Off 0 xs → T (distinct (map (field w BLOCK) xs)) → Distinct (map (fw w BLOCK) xs)
-  sound-blocks xs o h = distinct-yes (map (fw w BLOCK) xs) (rw (map-field BLOCK xs o) at h)
+  sound-blocks xs o h = distinct-yes (map (fw w BLOCK) xs) (rw (map-field (λ n. n) BLOCK xs o) at h)
 
   -- ---- the header's numbers
 
   module _ (xs : List ℕ) (run : Run (fw w TO-TAIL) (val w HEAD) xs 0) (many : length xs ≡ val w RESIDENTS) (o : Off 0 xs) where
-    pub sum-is : (j : ℕ) → sumOf (fw w) j (val w RESIDENTS) (val w HEAD) ≡ total (map (field w j) xs)
+    pub sum-is : (k : ℕ → ℕ) (j : ℕ) → sumOf (fw w) (λ e. k (fw w j e)) (val w RESIDENTS) (val w HEAD) ≡ total (map (λ e. k (field w j e)) xs)
     unfolding sumOf
-    sum-is j = rw (← many, map-field j xs o) (sum-run (fw w) j xs (val w HEAD) 0 run ∙ zero-add (total (map (fw w j) xs)))
+    sum-is k j =
+        rw (← many, map-field k j xs o) (sum-run (fw w) (λ e. k (fw w j e)) xs (val w HEAD) 0 run ∙ zero-add (total (map (λ e. k (fw w j e)) xs)))
 
     pub position-is : (p : ℕ) → atPosition (fw w) (val w RESIDENTS) (val w HEAD) p ≡ getD xs p 0
     unfolding atPosition nthOf
@@ -186,7 +187,7 @@ module _ (w : List ℕ) where
     pub numbers-read : T (numbersTest w (fw w) (val w CACHE-BLOCKS) (val w NEW-BLOCKS) (val w OLD-BLOCKS) (val w AVERAGE-LIMIT) (val w RESIDENTS) (val w HEAD)) → Numbers
     unfolding numbersTest
     numbers-read h =
-        let s : ℕ = sumOf (fw w) 1 (val w RESIDENTS) (val w HEAD) in
+        let s : ℕ = sumOf (fw w) (fw w 1) (val w RESIDENTS) (val w HEAD) in
         let t6 : Bool = pick (eqb (val w BLANK-15) 0) true false in
         let t5 : Bool = pick (eqb (val w BLANK-14) 0) t6 false in
         let t4 : Bool = pick (eqb (val w OLD-BOUNDARY) (atPosition (fw w) (val w RESIDENTS) (val w HEAD) (val w CACHE-BLOCKS - val w OLD-BLOCKS))) t5 false in
@@ -198,8 +199,8 @@ module _ (w : List ℕ) where
         let e = pick-yes (eqb (val w BLANK-14) 0) t6 (d .1) in
         let g = pick-yes (eqb (val w BLANK-15) 0) true (e .1) in
         record {
-          sum = eqb→eq (val w SUM) s (a .0) ∙ sum-is 1;
-          average = rw (sum-is 1) at (ltb-no {a = val w AVERAGE-LIMIT * val w CACHE-BLOCKS} {b = s} (b .0));
+          sum = eqb→eq (val w SUM) s (a .0) ∙ sum-is (λ n. n) 1;
+          average = rw (sum-is (λ n. n) 1) at (ltb-no {a = val w AVERAGE-LIMIT * val w CACHE-BLOCKS} {b = s} (b .0));
           new = eqb→eq (val w NEW-BOUNDARY) (atPosition (fw w) (val w RESIDENTS) (val w HEAD) (val w NEW-BLOCKS)) (c .0) ∙ position-is (val w NEW-BLOCKS);
           old = eqb→eq (val w OLD-BOUNDARY) (atPosition (fw w) (val w RESIDENTS) (val w HEAD) (val w CACHE-BLOCKS - val w OLD-BLOCKS)) (d .0) ∙ position-is (val w CACHE-BLOCKS - val w OLD-BLOCKS);
           none = eqb→eq (val w BLANK-14) 0 (e .0);
@@ -210,7 +211,7 @@ module _ (w : List ℕ) where
     unfolding numbersTest
     numbers-write n =
         rw (
-          sum-is 1,
+          sum-is (λ n. n) 1,
           position-is (val w NEW-BLOCKS),
           position-is (val w CACHE-BLOCKS - val w OLD-BLOCKS),
           eq-eqb (val w SUM) (total (map (field w COUNT) xs)) (n .sum),
@@ -223,15 +224,22 @@ module _ (w : List ℕ) where
 
   -- ---- totals
 
-  pub totals-read : T (totalsTest w (fw w) (val w RESIDENTS) (val w HEAD)) → (totalOf w INS ≤ totalOf w READS) × (totalOf w OUTS + sumOf (fw w) 3 (val w RESIDENTS) (val w HEAD) ≤ totalOf w WRITES)
+  pub totals-read : T (totalsTest w (fw w) (val w RESIDENTS) (val w HEAD))
+      → (totalOf w INS ≤ totalOf w READS) × (totalOf w OUTS + sumOf (fw w) (markBit (fw w)) (val w RESIDENTS) (val w HEAD) ≤ totalOf w WRITES)
   unfolding totalsTest
   totals-read h =
-      let a = pick-no (ltb (totalOf w READS) (totalOf w INS)) (pick (ltb (totalOf w WRITES) (totalOf w OUTS + sumOf (fw w) 3 (val w RESIDENTS) (val w HEAD))) false true) h in
-      let b = pick-no (ltb (totalOf w WRITES) (totalOf w OUTS + sumOf (fw w) 3 (val w RESIDENTS) (val w HEAD))) true (a .1) in
-      (ltb-no {a = totalOf w READS} {b = totalOf w INS} (a .0), ltb-no {a = totalOf w WRITES} {b = totalOf w OUTS + sumOf (fw w) 3 (val w RESIDENTS) (val w HEAD)} (b .0))
+      let a =
+      pick-no (ltb (totalOf w READS) (totalOf w INS))
+      (pick (ltb (totalOf w WRITES) (totalOf w OUTS + sumOf (fw w) (markBit (fw w)) (val w RESIDENTS) (val w HEAD))) false true) h in
+      let b = pick-no (ltb (totalOf w WRITES) (totalOf w OUTS + sumOf (fw w) (markBit (fw w)) (val w RESIDENTS) (val w HEAD))) true (a .1) in
+      let marked : ℕ = sumOf (fw w) (markBit (fw w)) (val w RESIDENTS) (val w HEAD) in
+      (ltb-no {a = totalOf w READS} {b = totalOf w INS} (a .0), ltb-no {a = totalOf w WRITES} {b = totalOf w OUTS + marked} (b .0))
 
-  pub totals-write : totalOf w INS ≤ totalOf w READS → totalOf w OUTS + sumOf (fw w) 3 (val w RESIDENTS) (val w HEAD) ≤ totalOf w WRITES → T (totalsTest w (fw w) (val w RESIDENTS) (val w HEAD))
+  pub totals-write : totalOf w INS ≤ totalOf w READS
+      → totalOf w OUTS + sumOf (fw w) (markBit (fw w)) (val w RESIDENTS) (val w HEAD) ≤ totalOf w WRITES
+      → T (totalsTest w (fw w) (val w RESIDENTS) (val w HEAD))
   unfolding totalsTest
   totals-write h k =
-      no-pick (ltb (totalOf w READS) (totalOf w INS)) (pick (ltb (totalOf w WRITES) (totalOf w OUTS + sumOf (fw w) 3 (val w RESIDENTS) (val w HEAD))) false true) (no-ltb h)
-      (no-pick (ltb (totalOf w WRITES) (totalOf w OUTS + sumOf (fw w) 3 (val w RESIDENTS) (val w HEAD))) true (no-ltb k) tt)
+      no-pick (ltb (totalOf w READS) (totalOf w INS))
+      (pick (ltb (totalOf w WRITES) (totalOf w OUTS + sumOf (fw w) (markBit (fw w)) (val w RESIDENTS) (val w HEAD))) false true) (no-ltb h)
+      (no-pick (ltb (totalOf w WRITES) (totalOf w OUTS + sumOf (fw w) (markBit (fw w)) (val w RESIDENTS) (val w HEAD))) true (no-ltb k) tt)

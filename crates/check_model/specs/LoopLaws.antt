@@ -174,7 +174,7 @@ pub fld-small : (w : List ℕ) (at j e : ℕ) → fld w at j e < 268435456
 unfolding fld
 fld-small w at j e = val-small w (at + 9 * e + j)
 
-pub sum-small : (w : List ℕ) (at j k e a : ℕ) → sumFrom (fld w at) j k e a .1 ≤ a + 268435456 * k
+pub sum-small : (w : List ℕ) (at j k e a : ℕ) → sumFrom (fld w at) (fld w at j) k e a .1 ≤ a + 268435456 * k
 unfolding moved
 sum-small w at j zero e a = omega arith
 sum-small w at j (suc k) e a = omega (arith, sum-small w at j k (fld w at 5 e) (a + fld w at j e), fld-small w at j e)

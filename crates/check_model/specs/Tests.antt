@@ -11,6 +11,7 @@ use Rattle.fnv.specs.Fnv.{fnv}
 use Rattle.settings.specs.Numbers.{settingsNumber}
 use Rattle.settings.specs.Buckets.{buckets}
 use Rattle.layout.specs.Addresses.{CACHE-BLOCKS, NEW-BLOCKS, OLD-BLOCKS, CHAIN-LIMIT, AVERAGE-LIMIT, STORE-BLOCKS, RESIDENTS, SUM, HEAD, TAIL, NEW-BOUNDARY, OLD-BOUNDARY, UNUSED, BLANK-14, BLANK-15, READS, WRITES, INS, OUTS, BLOCK, COUNT, SECTION, MODIFIED, TO-HEAD, TO-TAIL, CHAIN-TO-HEAD, CHAIN-TO-TAIL, NEXT-SYNONYM, chainHead, chainTail}
+use Rattle.layout.specs.ModifiedWord.{isModifiedWord}
 use Rattle.layout.specs.Sound.{settingsIn, totalAt}
 use Rattle.check_model.specs.Turns.{turns, moved}
 
@@ -64,8 +65,7 @@ fieldTest f m new mid e p =
     pick (ltb (f BLOCK e) m)
     (pick (ltb (f COUNT e) 1) false
     (pick (ltb 65535 (f COUNT e)) false
-    (pick (ltb 1 (f MODIFIED e)) false
-    (eqb (f SECTION e) (sectionAt new mid p))))) false
+    (pick (isModifiedWord (f MODIFIED e)) (eqb (f SECTION e) (sectionAt new mid p)) false))) false
 
 abbrev pub fieldsFrom : (ℕ → ℕ → ℕ) → ℕ → ℕ → ℕ → ℕ → ℕ → ℕ → Bool
 fieldsFrom f m new mid k e p =
@@ -95,13 +95,16 @@ nthOf f k head = moved (f TO-TAIL) k head
 unfoldable pub atPosition : (ℕ → ℕ → ℕ) → ℕ → ℕ → ℕ → ℕ
 atPosition f r head p = pick (ltb p r) (nthOf f p head) 0
 
--- the sum of word j
+-- a sum over the residents: of their counts, and of their modified marks (the lowest bit of that word)
 
-abbrev pub sumFrom : (ℕ → ℕ → ℕ) → ℕ → ℕ → ℕ → ℕ → ℕ × ℕ
-sumFrom f j k e a = moved {S = ℕ × ℕ} (λ s. (f TO-TAIL (s .0), s .1 + f j (s .0))) k (e, a)
+abbrev pub markBit : (ℕ → ℕ → ℕ) → ℕ → ℕ
+markBit f e = f MODIFIED e % 2
 
-unfoldable pub sumOf : (ℕ → ℕ → ℕ) → ℕ → ℕ → ℕ → ℕ
-sumOf f j r head = sumFrom f j r head 0 .1
+abbrev pub sumFrom : (ℕ → ℕ → ℕ) → (ℕ → ℕ) → ℕ → ℕ → ℕ → ℕ × ℕ
+sumFrom f g k e a = moved {S = ℕ × ℕ} (λ s. (f TO-TAIL (s .0), s .1 + g (s .0))) k (e, a)
+
+unfoldable pub sumOf : (ℕ → ℕ → ℕ) → (ℕ → ℕ) → ℕ → ℕ → ℕ
+sumOf f g r head = sumFrom f g r head 0 .1
 
 -- chains: before is the last entry seen of the same count, 0 where there is none
 
@@ -193,8 +196,8 @@ totalOf w i = totalAt w i
 
 unfoldable pub numbersTest : List ℕ → (ℕ → ℕ → ℕ) → ℕ → ℕ → ℕ → ℕ → ℕ → ℕ → Bool
 numbersTest w f n new old average r head =
-    pick (eqb (val w SUM) (sumOf f COUNT r head))
-    (pick (ltb (average * n) (sumOf f COUNT r head)) false
+    pick (eqb (val w SUM) (sumOf f (f COUNT) r head))
+    (pick (ltb (average * n) (sumOf f (f COUNT) r head)) false
     (pick (eqb (val w NEW-BOUNDARY) (atPosition f r head new))
     (pick (eqb (val w OLD-BOUNDARY) (atPosition f r head (n - old)))
     (pick (eqb (val w BLANK-14) 0) (pick (eqb (val w BLANK-15) 0) true false) false) false) false)) false
@@ -202,7 +205,7 @@ numbersTest w f n new old average r head =
 unfoldable pub totalsTest : List ℕ → (ℕ → ℕ → ℕ) → ℕ → ℕ → Bool
 totalsTest w f r head =
     pick (ltb (totalOf w READS) (totalOf w INS)) false
-    (pick (ltb (totalOf w WRITES) (totalOf w OUTS + sumOf f MODIFIED r head)) false true)
+    (pick (ltb (totalOf w WRITES) (totalOf w OUTS + sumOf f (markBit f) r head)) false true)
 
 -- the lists
 

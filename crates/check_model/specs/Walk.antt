@@ -11,12 +11,12 @@ use lib.Seq.{getD-drop, take-length}
 use lib.Dec.{T, ltb, eqb}
 use Rattle.basics.specs.Basics.{pick}
 use Rattle.words.specs.Words.{val}
-use Rattle.layout.specs.Addresses.{RESIDENTS, SUM, HEAD, TAIL, NEW-BOUNDARY, OLD-BOUNDARY, UNUSED, BLANK-14, BLANK-15, READS, WRITES, INS, OUTS, COUNT, MODIFIED, TO-TAIL}
+use Rattle.layout.specs.Addresses.{RESIDENTS, SUM, HEAD, TAIL, NEW-BOUNDARY, OLD-BOUNDARY, UNUSED, BLANK-14, BLANK-15, READS, WRITES, INS, OUTS, COUNT, TO-TAIL}
 use Rattle.check_model.specs.Turns.{turns, moved}
 use Rattle.check_model.specs.Fields.{less}
 use Rattle.check_model.specs.LoopLaws.{link-low}
 use Rattle.check_model.specs.Bools.{is-true, to-T, same-truth, pick-yes, yes-pick, pick-pick}
-use Rattle.check_model.specs.Tests.{fld, entryWord, headOf, tailOf, firstOf, linkTest, fieldTest, chainTest, lastAt, noted, endsOk, stackOk, fieldsOk, chainsOk, sumOf, nthOf, atPosition, totalOf, numbersTest, totalsTest, unusedOk, bucketsFrom, listsTest}
+use Rattle.check_model.specs.Tests.{fld, entryWord, headOf, tailOf, firstOf, linkTest, fieldTest, chainTest, lastAt, noted, endsOk, stackOk, fieldsOk, chainsOk, markBit, sumOf, nthOf, atPosition, totalOf, numbersTest, totalsTest, unusedOk, bucketsFrom, listsTest}
 
 -- loops side by side
 
@@ -86,7 +86,16 @@ walkEnd w f n cmax average e before s marks l at-new at-old =
     (pick (numbersWith w n average s at-new at-old) (totalsWith w marks) false) false
 
 abbrev pub onward : (ℕ → ℕ → ℕ) → ℕ → ℕ → Place → Place
-onward f new mid s = (f TO-TAIL (s .0), s .0, s .2 + 1, s .3 + f COUNT (s .0), s .4 + f MODIFIED (s .0), noted (s .5) (f COUNT (s .0)) (s .0), met (s .2) new (s .0) (s .6), met (s .2) mid (s .0) (s .7))
+onward f new mid s = (
+  f TO-TAIL (s .0),
+  s .0,
+  s .2 + 1,
+  s .3 + f COUNT (s .0),
+  s .4 + markBit f (s .0),
+  noted (s .5) (f COUNT (s .0)) (s .0),
+  met (s .2) new (s .0) (s .6),
+  met (s .2) mid (s .0) (s .7),
+)
 
 abbrev pub walkFrom : List ℕ → (ℕ → ℕ → ℕ) → ℕ → ℕ → ℕ → ℕ → ℕ → ℕ → ℕ → Place → Bool
 walkFrom w f n m new mid cmax average k s =
@@ -150,13 +159,15 @@ module _ (w : List ℕ) (f : ℕ → ℕ → ℕ) (n m new old cmax average r he
   abbrev sums : Place → Bool
   sums s = pick (numbersWith w n average (s .3) (s .6) (s .7)) (totalsWith w (s .4)) false
 
-  count-is : moved step r start .3 ≡ sumOf f COUNT r head
+  count-is : moved step r start .3 ≡ sumOf f (f COUNT) r head
   unfolding sumOf
   count-is = ap {A = ℕ × ℕ} (λ z. z .1) (moved-part {S = Place} {R = ℕ × ℕ} (λ s. (s .0, s .3)) step (λ s. (f TO-TAIL (s .0), s .1 + f COUNT (s .0))) (λ s. refl) r start)
 
-  marks-is : moved step r start .4 ≡ sumOf f MODIFIED r head
+  marks-is : moved step r start .4 ≡ sumOf f (markBit f) r head
   unfolding sumOf
-  marks-is = ap {A = ℕ × ℕ} (λ z. z .1) (moved-part {S = Place} {R = ℕ × ℕ} (λ s. (s .0, s .4)) step (λ s. (f TO-TAIL (s .0), s .1 + f MODIFIED (s .0))) (λ s. refl) r start)
+  marks-is =
+      ap {A = ℕ × ℕ} (λ z. z .1)
+      (moved-part {S = Place} {R = ℕ × ℕ} (λ s. (s .0, s .4)) step (λ s. (f TO-TAIL (s .0), s .1 + markBit f (s .0))) (λ s. refl) r start)
 
   new-is : moved step r start .6 ≡ atPosition f r head new
   new-is = ap {A = ℕ × ℕ × ℕ} (λ z. z .2) (moved-part {S = Place} {R = ℕ × ℕ × ℕ} (λ s. (s .0, s .2, s .6)) step (meet f new) (λ s. refl) r start) ∙ met-is f new r head

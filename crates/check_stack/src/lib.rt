@@ -1,6 +1,7 @@
 ghost use mathlib.Core.Path.{_≡_};
 ghost use Prim.Native.Nat.{_+_, _*_, _≤_, _<_};
 ghost use lib.ListN.{length};
+ghost use Rattle.layout.specs.ModifiedWord.{isModifiedWord};
 ghost use Rattle.check_model.specs.Nines.{hasKind, linksOk, nineTest, ninesOk};
 ghost use Rattle.check_model.specs.Tests.{entryWord, fieldTest, kindAt, kindTest, kindsOk, linkTest, sectionAt, unusedOk, unusedTest};
 
@@ -156,25 +157,30 @@ fn section_at(new: u32, mid: u32, p: u32) -> u32
     2
 }
 
+// A modified word is modified + 2 × seen, where seen needs modified.
+fn is_modified_word(w: u32) -> bool
+    ensures { λ r. ⌜ r ≡ isModifiedWord w ⌝ }
+{
+    w / 2 <= w % 2
+}
+
 // The numbers of the resident at position p are right.
 pub fn field_test(entries: &[u32], m: u32, new: u32, mid: u32, e: u32, p: u32) -> bool
     requires { ⌜ 9 * e + 8 < length (now entries) ⌝ }
     ensures { λ r. ⌜ r ≡ fieldTest (entryWord (now (entries .entry))) m new mid e p ⌝ }
 {
-    let block = field(entries, layout::BLOCK, e);
-    let count = field(entries, layout::COUNT, e);
-    let modified = field(entries, layout::MODIFIED, e);
-    if block < m {
+    if field(entries, layout::BLOCK, e) < m {
+        let count = field(entries, layout::COUNT, e);
         if count < 1 {
             return false;
         }
         if count > 65535 {
             return false;
         }
-        if modified > 1 {
-            return false;
+        if is_modified_word(field(entries, layout::MODIFIED, e)) {
+            return field(entries, layout::SECTION, e) == section_at(new, mid, p);
         }
-        return field(entries, layout::SECTION, e) == section_at(new, mid, p);
+        return false;
     }
     false
 }

@@ -4,11 +4,9 @@ use mathlib.Core.Path.{_≡_, refl, _∙_, sym, ap, subst}
 use mathlib.Core.Logic.{⊎-elim}
 use mathlib.Core.List.{List, [], _∷_, map}
 use native.Mathlib.Omega.{arith}
-use native.Mathlib.Decide.{ℕ-discrete}
 use lib.ListN.{length, drop, getD, length-drop}
 use lib.Seq.{ext-getD, getD-drop}
-use lib.Dec.{T, eqb}
-use borrow.Author.Tests.{eq-eqb, ne-eqb}
+use lib.Dec.{T}
 use Rattle.basics.specs.Basics.{All}
 use Rattle.basics.specs.AllLaws.{all-map}
 use Rattle.links.specs.Off.{Off, Same}
@@ -19,6 +17,8 @@ use Rattle.words.specs.Words.{val}
 use Rattle.settings.specs.Buckets.{buckets}
 use Rattle.stack.specs.Recency.{Resident}
 use Rattle.layout.specs.Addresses.{CACHE-BLOCKS, NEW-BLOCKS, OLD-BLOCKS, CHAIN-LIMIT, AVERAGE-LIMIT, BLOCK-SIZE, STORE-BLOCKS, BLOCK, COUNT, MODIFIED, NEXT-SYNONYM, bucketWord}
+use Rattle.layout.specs.ModifiedWord.{modifiedWord, marksIn, isModifiedWord}
+use Rattle.layout.specs.ModifiedWordLaws.{word-made}
 use Rattle.layout.specs.Sound.{settingsIn, totalsIn, field, walk, order, unusedEntries, sound, residentAt}
 use Rattle.check_model.specs.Fields.{less}
 use Rattle.check_model.specs.Along.{fw, field-is, along-run}
@@ -72,15 +72,9 @@ map-same f g (e ∷ l) q =
     let rest : map f l ≡ map g l = cc in
     (here, map-same f g l rest)
 
--- a mark, 0 or 1, by whether it is 1
-mark-is : (m n : ℕ) → m ≤ 1 → n ≤ 1 → eqb m 1 ≡ eqb n 1 → m ≡ n
-mark-is m n a b q = go (ℕ-discrete m 1) (ℕ-discrete n 1)
-  where
-    go : Dec (m ≡ 1) → Dec (n ≡ 1) → m ≡ n
-    go (yes c) (yes d) = omega arith
-    go (no c) (no d) = omega arith
-    go (yes c) (no d) = let t = eq-eqb m 1 c in let f = ne-eqb n 1 d in let z : _≡_ {A = ℕ} 0 1 = cc in absurd (omega arith)
-    go (no c) (yes d) = let t = eq-eqb n 1 d in let f = ne-eqb m 1 c in let z : _≡_ {A = ℕ} 0 1 = cc in absurd (omega arith)
+-- a modified word, by the marks that it says
+mark-is : (m n : ℕ) → T (isModifiedWord m) → T (isModifiedWord n) → marksIn m ≡ marksIn n → m ≡ n
+mark-is m n a b q = sym (word-made m a) ∙ ap modifiedWord q ∙ word-made n b
 
 -- ---- of two directories
 
@@ -168,14 +162,14 @@ module _ (u w : List ℕ) (h : T (sound u)) (t : T (sound w)) (a : Alike u w) wh
   unfolding residentAt
   count-one e q = ap (λ r. r .count) q
 
-  mark-one : (e : ℕ) → residentAt u e ≡ residentAt w e → eqb (field u MODIFIED e) 1 ≡ eqb (field w MODIFIED e) 1
+  mark-one : (e : ℕ) → residentAt u e ≡ residentAt w e → marksIn (field u MODIFIED e) ≡ marksIn (field w MODIFIED e)
   unfolding residentAt
-  mark-one e q = ap (λ r. r .modified) q
+  mark-one e q = ap (λ r. r .marks) q
 
   mark-at : (e : ℕ) → ¬ (e ≡ 0) → e ≤ val w CACHE-BLOCKS → residentAt u e ≡ residentAt w e → fields u MODIFIED e ≡ fields w MODIFIED e
   mark-at e z l q =
       mark-is (fields u MODIFIED e) (fields w MODIFIED e) (linked-u .flags .bits e (omega arith, l)) (linked-w .flags .bits e (omega arith, l))
-      (ap (λ n. eqb n 1) (sym (as-field u 3 e (omega arith) z)) ∙ mark-one e q ∙ ap (λ n. eqb n 1) (as-field w 3 e (omega arith) z))
+      (ap marksIn (sym (as-field u 3 e (omega arith) z)) ∙ mark-one e q ∙ ap marksIn (as-field w 3 e (omega arith) z))
 
   same-by : (j : ℕ) (l : List ℕ) → Off 0 l → All (λ e. e ≤ val w CACHE-BLOCKS) l → ((e : ℕ) → ¬ (e ≡ 0) → e ≤ val w CACHE-BLOCKS → residentAt u e ≡ residentAt w e → fields u j e ≡ fields w j e) → All (λ e. residentAt u e ≡ residentAt w e) l → Same (fields u j) (fields w j) l
   same-by j [] o b f r = tt

@@ -1,4 +1,4 @@
--- A flush along the stack, over variables: what one resident takes and leaves, and what the whole walk leaves.
+-- A flush or a tick along the stack, over variables: what one resident takes and leaves, and what the whole walk leaves.
 use Prim.Native.Nat.{ℕ, zero, suc, _+_, _-_, _*_, _≤_, _<_}
 use native.Mathlib.Omega.{arith}
 use mathlib.Core.Path.{_≡_, refl, sym, ap, _∙_}
@@ -7,17 +7,30 @@ use mathlib.Core.List.{List, [], _∷_, map}
 use mathlib.Core.Option.{some}
 use lib.ListN.{length, getD, getElem?}
 use Rattle.basics.specs.Basics.{blockAt, putBlock}
+use Rattle.stack.specs.declared.Marks.{Marks}
 use Rattle.stack.specs.Recency.{Resident}
 use Rattle.layout.specs.Sound.{residentAt, residentsIn}
 use Rattle.layout.specs.SoundLaws.{sound-legal, sound-residents}
-use Rattle.promises.specs.DirectoryPromises.{Cleaned, entryAt, NextOf}
+use Rattle.promises.specs.DirectoryPromises.{Cleaned, TickSeen, entryAt, NextOf}
 use Rattle.promises.specs.Demand3.{Memory}
 use Rattle.promises.specs.DirectoryReady.{CleanReady}
 use Rattle.cache_steps.specs.Carried.{settingsOf, memory, Ready}
 use Rattle.cache_steps.specs.Places.{at-entry, resident-fit, resident-entry, resident-block}
-use Rattle.cache_steps.specs.FlushLists.{passed}
-use Rattle.cache_steps.specs.FlushStep.{Flushing, flush-clean, flush-modified, flush-length, flush-ready}
+use Rattle.cache_steps.specs.FlushLists.{chosen, passed, chosen-set}
+use Rattle.cache_steps.specs.FlushStep.{Flushing, flush-clean, flush-modified, flush-seen, flush-length, flush-ready}
 use Rattle.flushing.specs.Standing.{Standing, EntryReady}
+
+-- ---- whether a resident is written out, by its marks
+
+module _ (marks : Marks) (tick : Bool) where
+  pub due-seen : tick ≡ true → marks .modified ≡ true → marks .seen ≡ chosen tick marks
+  due-seen on set = rw (on, set)
+
+  pub not-due : tick ≡ true → marks .modified ≡ false → false ≡ chosen tick marks
+  not-due on clear = rw (on, clear)
+
+  pub flush-chosen : tick ≡ false → marks .modified ≡ chosen tick marks
+  flush-chosen off = rw off
 
 -- ---- the resident at a position
 
@@ -56,61 +69,79 @@ module _ (m : Memory) (size e : ℕ) (r : EntryReady m size e) where
   pub block-room : (block : ℕ) → block ≡ residentAt (m .directory) e .block → block * size + size ≤ length (m .store)
   block-room block b = rw (r .size-is, b, ← here-is (m .directory) (r .position) e h) (resident-block m (r .ready) (r .position) (h .here))
 
-  pub clean-ready : (t : Bool) → t ≡ residentAt (m .directory) e .modified → t ≡ true → CleanReady (m .directory) e
-  clean-ready t is set =
+  pub clean-ready : (marks : Marks) → marks ≡ residentAt (m .directory) e .marks → marks .modified ≡ true → CleanReady (m .directory) e
+  clean-ready marks is set =
       record {
         is-sound = r .ready .is-sound;
         position = r .position;
         resident = h .resident;
         here = h .here;
         entry = h .entry;
-        modified = ap (λ x. x .modified) (here-is (m .directory) (r .position) e h) ∙ sym is ∙ set;
+        modified = ap (λ x. x .marks .modified) (here-is (m .directory) (r .position) e h) ∙ sym (ap (λ x. x .modified) is) ∙ set;
       }
 
--- ---- one resident passed
+  pub out-ready : (ticks : Bool) (marks : Marks) → marks ≡ residentAt (m .directory) e .marks → chosen ticks marks ≡ true
+      → CleanReady (m .directory) e
+  out-ready ticks marks is out = clean-ready marks is (chosen-set ticks marks out)
 
-module _ (m : Memory) (size e : ℕ) (r : EntryReady m size e) (t : Bool) (t-is : t ≡ residentAt (m .directory) e .modified) (start : Memory) (p n : ℕ) (ready : Ready start) (so-far : Flushing start p m n) (s : Standing (m .directory) p e) where
+-- ---- one resident passed, with its marks
+
+module _ (ticks : Bool) (m : Memory) (e : ℕ) (start : Memory) (p n : ℕ) (ready : Ready start) (so-far : Flushing ticks start p m n)
+    (s : Standing (m .directory) p e) (marks : Marks) (marks-is : marks ≡ residentAt (m .directory) e .marks) where
   k : Here (residentsIn (m .directory)) p e
   k = of-standing (m .directory) p e s
 
   k-is : k .resident ≡ residentAt (m .directory) e
   k-is = here-is (m .directory) p e k
 
-  mark : k .resident .modified ≡ t
-  mark = ap (λ x. x .modified) k-is ∙ sym t-is
+  k-marks : k .resident .marks ≡ marks
+  k-marks = ap (λ x. x .marks) k-is ∙ sym marks-is
 
-  pub passes : t ≡ false → Flushing start (p + 1) m (n + 0)
-  passes clear = let z : n + 0 ≡ n = omega arith in rw z (flush-clean start ready so-far (k .here) (mark ∙ clear))
+  none : n + 0 ≡ n
+  none = omega arith
 
-  pub writes : (block : ℕ) (d store : List ℕ) → t ≡ true → block ≡ residentAt (m .directory) e .block → store ≡ putBlock size block (blockAt size (e - 1) (m .bytes)) (m .store) → Cleaned (m .directory) e d
-      → Flushing start (p + 1) (memory d (m .bytes) store) (n + 1)
-  writes block d store set b-is store-is clean =
-      let size-is : size ≡ settingsOf start .b = r .size-is ∙ ap (λ x. x .b) (so-far .kept .settings-kept) in
+  -- one that isn't modified stays
+  pub stays : marks .modified ≡ false → Flushing ticks start (p + 1) m (n + 0)
+  stays clear = rw none (flush-clean ticks start ready so-far (k .here) (ap (λ x. x .modified) k-marks ∙ clear))
+
+  -- one that is modified and isn't written out has seen the tick
+  pub sees : marks .modified ≡ true → chosen ticks marks ≡ false → (d : List ℕ) → TickSeen (m .directory) e d
+      → Flushing ticks start (p + 1) (memory d (m .bytes) (m .store)) (n + 0)
+  sees set left d seen =
+      rw none
+      (flush-seen ticks start ready so-far (k .here) (ap (λ x. x .modified) k-marks ∙ set) (ap (chosen ticks) k-marks ∙ left) (rw (k .entry) seen))
+
+  pub writes : (size block : ℕ) (d store : List ℕ) → size ≡ settingsOf m .b → chosen ticks marks ≡ true → block ≡ residentAt (m .directory) e .block
+      → store ≡ putBlock size block (blockAt size (e - 1) (m .bytes)) (m .store) → Cleaned (m .directory) e d
+      → Flushing ticks start (p + 1) (memory d (m .bytes) store) (n + 1)
+  writes size block d store m-size out b-is store-is clean =
+      let size-is : size ≡ settingsOf start .b = m-size ∙ ap (λ x. x .b) (so-far .kept .settings-kept) in
       let b : block ≡ k .resident .block = b-is ∙ sym (ap (λ x. x .block) k-is) in
-      let same : store ≡ putBlock (settingsOf start .b) (k .resident .block) (blockAt (settingsOf start .b) (k .resident .held - 1) (m .bytes)) (m .store) = cc (k .entry) in
-      rw same (flush-modified start ready so-far (k .here) (mark ∙ set) (rw (k .entry) clean))
+      let bytes-of : ℕ → List ℕ = λ B. blockAt B (k .resident .held - 1) (m .bytes) in
+      let same : store ≡ putBlock (settingsOf start .b) (k .resident .block) (bytes-of (settingsOf start .b)) (m .store) = cc (k .entry) in
+      rw same (flush-modified ticks start ready so-far (k .here) (ap (chosen ticks) k-marks ∙ out) (rw (k .entry) clean))
 
 -- ---- along the stack
 
-passed-entries : (l : List (Resident ℕ)) (p : ℕ) → map (λ x. x .held) (passed p l) ≡ map (λ x. x .held) l
-passed-entries [] zero = refl
-passed-entries [] (suc p) = refl
-passed-entries (x ∷ l) zero = refl
-passed-entries (x ∷ l) (suc p) = ap (λ t. x .held ∷ t) (passed-entries l p)
+passed-entries : (ticks : Bool) (l : List (Resident ℕ)) (p : ℕ) → map (λ x. x .held) (passed ticks p l) ≡ map (λ x. x .held) l
+passed-entries ticks [] zero = refl
+passed-entries ticks [] (suc p) = refl
+passed-entries ticks (x ∷ l) zero = refl
+passed-entries ticks (x ∷ l) (suc p) = ap (λ t. x .held ∷ t) (passed-entries ticks l p)
 
-module _ (start : Memory) (ready : Ready start) (p : ℕ) (m : Memory) (n : ℕ) (so-far : Flushing start p m n) where
+module _ (ticks : Bool) (start : Memory) (ready : Ready start) (p : ℕ) (m : Memory) (n : ℕ) (so-far : Flushing ticks start p m n) where
   -- the entries stand as at the start
   entries-stay : (q : ℕ) → entryAt (residentsIn (m .directory)) q ≡ entryAt (residentsIn (start .directory)) q
-  entries-stay q = ap (λ l. entryAt l q) (so-far .residents) ∙ ap (λ l. getD l q 0) (passed-entries (residentsIn (start .directory)) p)
+  entries-stay q = ap (λ l. entryAt l q) (so-far .residents) ∙ ap (λ l. getD l q 0) (passed-entries ticks (residentsIn (start .directory)) p)
 
   module _ (count : ℕ) (count-is : count ≡ length (residentsIn (start .directory))) (left : p < count) (e : ℕ) (e-is : e ≡ entryAt (residentsIn (start .directory)) p) where
     pub standing : Standing (m .directory) p e
-    standing = record { inside = rw (flush-length start ready so-far, ← count-is) left; entry = entries-stay p ∙ sym e-is }
+    standing = record { inside = rw (flush-length ticks start ready so-far, ← count-is) left; entry = entries-stay p ∙ sym e-is }
 
     pub entry-ready : (size : ℕ) → size ≡ settingsOf start .b → EntryReady m size e
     entry-ready size size-is =
         record {
-          ready = flush-ready start ready so-far;
+          ready = flush-ready ticks start ready so-far;
           size-is = size-is ∙ ap (λ x. x .b) (sym (so-far .kept .settings-kept));
           position = p;
           standing = standing;

@@ -5,7 +5,7 @@ use mathlib.Core.Bool.{Bool, true, false, _&&_, _||_}
 use mathlib.Core.List.{List, [], _∷_, _++_, map, reverse}
 use lib.ListN.{length, take, getD}
 use lib.Dec.{leb, ltb, eqb}
-use Rattle.basics.specs.Basics.{if_then_else_, within, total}
+use Rattle.basics.specs.Basics.{if_then_else_, bit, within, total}
 use Rattle.basics.specs.Lists.{every, all, same, distinct, sameMembers, those, counting}
 use Rattle.words.specs.Words.{val}
 use Rattle.settings.specs.declared.Settings.{Settings}
@@ -16,6 +16,7 @@ use Rattle.stack.specs.Recency.{Resident}
 use Rattle.stack.specs.Stack.{Stack, Totals}
 use Rattle.layout.specs.Addresses.{CACHE-BLOCKS, NEW-BLOCKS, OLD-BLOCKS, CHAIN-LIMIT, AVERAGE-LIMIT, BLOCK-SIZE, STORE-BLOCKS, RESIDENTS, SUM, HEAD, TAIL, NEW-BOUNDARY, OLD-BOUNDARY, UNUSED, BLANK-14, BLANK-15, READS, WRITES, INS, OUTS, BLOCK, COUNT, SECTION, MODIFIED, TO-HEAD, TO-TAIL, CHAIN-TO-HEAD, CHAIN-TO-TAIL, NEXT-SYNONYM, chainHead, chainTail, bucketWord, entryWord, bucketOf}
 use Rattle.layout.specs.Layout.{kinds}
+use Rattle.layout.specs.ModifiedWord.{marksIn, isModifiedWord}
 
 module _ (ws : List ℕ) where
   unfoldable pub settingsIn : Settings
@@ -84,17 +85,17 @@ module _ (ws : List ℕ) where
   sectionsRight p [] = true
   sectionsRight p (e ∷ es) = eqb (field SECTION e) (section settingsIn p) && sectionsRight (suc p) es
 
-  -- Resident blocks differ and are below M; counts are 1 to 65,535 (and the modified word 0 or 1, as the layout has it); sum,
-  -- sections and words 11, 12, 14 and 15 are as defined; sum at most Amax × N.
+  -- Resident blocks differ and are below M; counts are 1 to 65,535, the modified word is 0, 1 or 3; sum, sections and words 11, 12,
+  -- 14 and 15 are as defined; sum at most Amax × N.
   unfoldable pub residentTests : List Bool
-  unfolding order sectionsRight all distinct total field settingsIn val
+  unfolding order sectionsRight all distinct total isModifiedWord field settingsIn val
   residentTests =
       let s = settingsIn in
       let sum = total (map (field COUNT) order) in
       distinct (map (field BLOCK) order)
       ∷ all (λ e. ltb (field BLOCK e) (s .m)) order
       ∷ all (λ e. within 1 65535 (field COUNT e)) order
-      ∷ all (λ e. leb (field MODIFIED e) 1) order
+      ∷ all (λ e. isModifiedWord (field MODIFIED e)) order
       ∷ eqb (val ws SUM) sum
       ∷ sectionsRight 0 order
       ∷ eqb (val ws NEW-BOUNDARY) (getD order (s .nnew) 0)
@@ -118,13 +119,13 @@ module _ (ws : List ℕ) where
   -- Chain i lists its residents, and a resident in no chain has chain links 0; each bucket lists its residents; ins at most reads;
   -- outs plus modified residents at most writes.
   unfoldable pub chainTests : List Bool
-  unfolding chainRight bucketRight all counting order field settingsIn totalsIn total val
+  unfolding chainRight bucketRight all counting order marksIn field settingsIn totalsIn total val
   chainTests =
       all chainRight (counting 1 (settingsIn .cmax))
       ∷ all (λ e. leb (field COUNT e) (settingsIn .cmax) || eqb (field CHAIN-TO-HEAD e + field CHAIN-TO-TAIL e) 0) order
       ∷ all bucketRight (counting 0 (buckets (settingsIn .n)))
       ∷ leb (totalsIn .ins) (totalsIn .reads)
-      ∷ leb (totalsIn .outs + total (map (field MODIFIED) order)) (totalsIn .writes)
+      ∷ leb (totalsIn .outs + total (map (λ e. bit (marksIn (field MODIFIED e) .modified)) order)) (totalsIn .writes)
       ∷ []
 
   -- The slice is long enough, every kind is right and the settings are legal; and all the rest. (Kinds and lists are laid out by
@@ -139,8 +140,8 @@ module _ (ws : List ℕ) where
   -- ---- the recency stack that the words stand for, with a store beside it
 
   unfoldable pub residentAt : ℕ → Resident ℕ
-  unfolding field val
-  residentAt e = record { block = field BLOCK e; count = field COUNT e; modified = eqb (field MODIFIED e) 1; held = e }
+  unfolding marksIn field val
+  residentAt e = record { block = field BLOCK e; count = field COUNT e; marks = marksIn (field MODIFIED e); held = e }
 
   -- read off along the stack links
   abbrev pub residentsIn : List (Resident ℕ)

@@ -1,27 +1,32 @@
 -- What soundness gives: legal settings, proper residents, and what every work word keeps.
-use Prim.Native.Nat.{ℕ, _+_, _*_, _≤_}
+use Prim.Native.Nat.{ℕ, _+_, _*_, _/_, _^_, _≤_}
 use native.Mathlib.Omega.{arith}
 use mathlib.Core.Path.{_≡_, refl, ap}
 use mathlib.Core.Logic.{_≢_}
 use mathlib.Core.Bool.{Bool, true, false, not}
 use mathlib.Core.List.{List, [], _∷_, _++_, map}
-use lib.ListN.{length, length-append, length-map}
+use lib.ListN.{length, take, length-append, length-map, length-take}
 use lib.Dec.{T, leb, ltb, eqb}
 use mir.Facts.{and-yes, or-no, leb-yes, ltb-yes, eqb-yes, eqb-no}
 use Rattle.basics.specs.AllLaws.{all-map, all-image, all-left, all-right}
 use Rattle.basics.specs.Basics.{All, if_then_else_, within, member, bit, total}
-use Rattle.basics.specs.ListLaws.{every-yes, all-yes}
+use Rattle.basics.specs.ListLaws.{every-yes, all-yes, same-is}
 use Rattle.basics.specs.Lists.{every, distinct}
 use Rattle.settings.specs.declared.Settings.{Settings}
 use Rattle.settings.specs.Numbers.{settingsNumber}
 use Rattle.settings.specs.NumbersLaws.{LegalSettings, legal-settings, old-fits}
+use Rattle.settings.specs.Buckets.{directoryLength}
 use Rattle.stack.specs.PlaceLaws.{Legal}
 use Rattle.stack.specs.BlockLaws.{Differ}
 use Rattle.stack.specs.SumLaws.{sum}
-use Rattle.stack.specs.KeepLaws.{LegalCounts, Kept}
+use Rattle.stack.specs.KeepLaws.{LegalCounts, SeenModified, Kept}
 use Rattle.stack.specs.Stack.{modifiedCount}
 use Rattle.stack.specs.EntriesLaws.{Fit, Apart, Residents, Proper}
 use Rattle.layout.specs.Addresses.{BLOCK, COUNT, MODIFIED}
+use Rattle.layout.specs.Layout.{kinds, freshWords}
+use Rattle.layout.specs.FreshKindLaws.{length-fresh, kinds-fresh}
+use Rattle.layout.specs.ModifiedWord.{marksIn, isModifiedWord}
+use Rattle.layout.specs.ModifiedWordLaws.{word-seen}
 use Rattle.layout.specs.Sound.{settingsIn, totalsIn, field, order, unusedEntries, stackTests, residentTests, chainTests, kindsRight, sound, residentAt, view}
 
 -- a number that is no member differs from every one
@@ -47,6 +52,23 @@ module _ (ws : List ℕ) (h : T (sound ws)) where
 
   pub sound-legal : LegalSettings s
   sound-legal = legal-settings s (eqb-yes (passed .0))
+
+  -- the slice holds the directory
+  pub sound-long : directoryLength s ≤ length ws
+  unfolding sound kindsRight
+  sound-long =
+      let same-kinds =
+      same-is (map (λ w. w / 2 ^ 28) (take (directoryLength s) ws)) (kinds s)
+      (second (eqb (settingsNumber s) 0) (kindsRight ws) (every (stackTests ws ++ (residentTests ws ++ chainTests ws))) h) in
+      let e = ap length same-kinds in
+      let k = ap length (kinds-fresh s sound-legal) in
+      let lent = length-map (take (directoryLength s) ws) (λ w. w / 2 ^ 28) in
+      omega (arith, lent, length-take (directoryLength s) ws, length-map (freshWords s) (λ w. w / 2 ^ 28), length-fresh s)
+    where
+      second : (b c d : Bool) → T (if b then (if c then d else false) else false) → T c
+      second true true d t = tt
+      second true false d t = absurd t
+      second false c d t = absurd t
 
   tests : All T (stackTests ws ++ (residentTests ws ++ chainTests ws))
   tests = every-yes (stackTests ws ++ (residentTests ws ++ chainTests ws)) (passed .1)
@@ -131,15 +153,16 @@ module _ (ws : List ℕ) (h : T (sound ws)) where
   sum-of [] = refl
   sum-of (e ∷ es) = ap (λ n. field ws COUNT e + n) (sum-of es)
 
-  -- a modified word is at least its mark
-  marks-of : (es : List ℕ) → modifiedCount (map (residentAt ws) es) ≤ total (map (field ws MODIFIED) es)
+  marks-of : (es : List ℕ) → modifiedCount (map (residentAt ws) es) ≡ total (map (λ e. bit (marksIn (field ws MODIFIED e) .modified)) es)
   unfolding residentAt total modifiedCount
-  marks-of [] = omega arith
-  marks-of (e ∷ es) = let h = marks-of es in let g = mark (eqb (field ws MODIFIED e) 1) eqb-yes in omega arith
-    where
-      mark : (b : Bool) → (T b → field ws MODIFIED e ≡ 1) → bit b ≤ field ws MODIFIED e
-      mark true f = let g = f tt in omega arith
-      mark false f = omega arith
+  marks-of [] = refl
+  marks-of (e ∷ es) = ap (λ n. bit (marksIn (field ws MODIFIED e) .modified) + n) (marks-of es)
+
+  -- seen only where modified
+  seen-of : (es : List ℕ) → All (λ e. T (isModifiedWord (field ws MODIFIED e))) es → SeenModified (map (residentAt ws) es)
+  unfolding residentAt
+  seen-of [] a = tt
+  seen-of (e ∷ es) a = (word-seen (field ws MODIFIED e) (a .0), seen-of es (a .1))
 
   pub sound-kept : (store : List ℕ) → Kept (view ws store)
   unfolding view residentTests chainTests
@@ -151,10 +174,12 @@ module _ (ws : List ℕ) (h : T (sound ws)) where
         few = sound-residents .few;
         legal = legal-of (order ws) (sound-residents .fit);
         differ = differ (order ws) (resident-passes .0);
+        seen = seen-of (order ws) (all-yes (λ e. isModifiedWord (field ws MODIFIED e)) (order ws) (resident-passes .1 .1 .1 .0));
         sums = let h : total (map (field ws COUNT) (order ws)) ≤ s .amax * s .n = leb-yes (resident-passes .1 .1 .1 .1 .1 .1 .1 .1 .1 .0) in rw (sum-of (order ws)) h;
         ins = leb-yes (chain-passes .1 .1 .1 .0);
         outs =
-            let h : totalsIn ws .outs + total (map (field ws MODIFIED) (order ws)) ≤ totalsIn ws .writes = leb-yes (chain-passes .1 .1 .1 .1 .0) in
+            let h : totalsIn ws .outs + total (map (λ e. bit (marksIn (field ws MODIFIED e) .modified)) (order ws)) ≤ totalsIn ws .writes =
+            leb-yes (chain-passes .1 .1 .1 .1 .0) in
             let g = marks-of (order ws) in
             omega arith;
       }

@@ -8,7 +8,7 @@ use native.Mathlib.Omega.{arith}
 use native.Mathlib.Nat.{mod-lt}
 use native.Mathlib.Decide.{ℕ-discrete}
 use lib.ListN.{length, getD}
-use lib.Dec.{eqb}
+use lib.Dec.{T, eqb}
 use borrow.Author.Tests.{lt-ltb, le-ltb, ne-eqb}
 use Rattle.basics.specs.Basics.{All, total}
 use Rattle.basics.specs.AllLaws.{all-map, all-both}
@@ -27,6 +27,7 @@ use Rattle.settings.specs.NumbersLaws.{LegalSettings}
 use Rattle.settings.specs.BucketLaws.{buckets-some, buckets-few}
 use Rattle.settings.specs.Buckets.{buckets}
 use Rattle.layout.specs.Addresses.{CACHE-BLOCKS, NEW-BLOCKS, OLD-BLOCKS, CHAIN-LIMIT, STORE-BLOCKS, HEAD, TAIL, UNUSED, BLANK-14, BLANK-15, BLOCK, COUNT, SECTION, MODIFIED, TO-HEAD, TO-TAIL, CHAIN-TO-HEAD, CHAIN-TO-TAIL, NEXT-SYNONYM}
+use Rattle.layout.specs.ModifiedWord.{isModifiedWord}
 use Rattle.layout.specs.Sound.{field}
 use Rattle.check_model.specs.Tests.{fld, headOf, tailOf, firstOf, totalOf, sectionAt}
 use Rattle.check_model.specs.Runs.{zeros}
@@ -53,9 +54,9 @@ unfolding Sum
 sum-none zero f h = refl
 sum-none (suc n) f h = omega (arith, h (suc n) (omega arith) (omega arith), sum-none n f (λ x a b. h x a (omega arith)))
 
-pub map-same : (f g : ℕ → ℕ) (xs : List ℕ) → Same f g xs → map f xs ≡ map g xs
-map-same f g [] s = refl
-map-same f g (x ∷ xs) s = ap₂ _∷_ (s .0) (map-same f g xs (s .1))
+pub map-same : (k f g : ℕ → ℕ) (xs : List ℕ) → Same f g xs → map (λ x. k (f x)) xs ≡ map (λ x. k (g x)) xs
+map-same k f g [] s = refl
+map-same k f g (x ∷ xs) s = ap₂ _∷_ (ap k (s .0)) (map-same k f g xs (s .1))
 
 same-away : (f : ℕ → ℕ) (x v : ℕ) (xs : List ℕ) → Off x xs → Same (upd f x v) f xs
 same-away f x v [] o = tt
@@ -67,7 +68,7 @@ sum-list n [] f d o l h = sum-none n f (λ x a b. h x a b tt)
 sum-list n (x ∷ xs) f d o l h =
     let g : ℕ → ℕ = upd f x 0 in
     let r : Sum n g ≡ total (map g xs) = sum-list n xs g (d .1) (o .1) (l .1) (λ y a b q. none y a b q (ℕ-discrete y x)) in
-    let s : map g xs ≡ map f xs = map-same g f xs (same-away f x 0 xs (d .0)) in
+    let s : map g xs ≡ map f xs = map-same (λ n. n) g f xs (same-away f x 0 xs (d .0)) in
     let z : ¬ (0 ≡ x) = o .0 in
     omega (arith, sum-upd n f x 0 (omega arith) (omega arith), r, ap total s)
   where
@@ -158,12 +159,13 @@ module _ (w : List ℕ) where
         all-some (λ y. (y < suc (val w CACHE-BLOCKS)) × (zeros (fw w) y ≡ 0)) P ys u (λ y z q. h y z (omega (arith, q .0)) (q .1))
         (all-both (λ y. y < suc (val w CACHE-BLOCKS)) (λ y. zeros (fw w) y ≡ 0) ys (all-below (suc (val w CACHE-BLOCKS)) ys (g .listing .spare-low)) (zeros-all w ys (g .listing .blank)))
 
-    sum-of : (j : ℕ) → j < 9 → ((y : ℕ) → ¬ (y ≡ 0) → zeros (fw w) y ≡ 0 → fw w j y ≡ 0) → total (map (field w j) xs) ≡ Sum (val w CACHE-BLOCKS) (D j)
-    sum-of j h none =
-        rw (map-field w j xs o, map-same (fw w j) (D j) xs (same-of j xs h o))
-        (sym (sum-list (val w CACHE-BLOCKS) xs (D j) (lists-dll w (g .listing) .once) o (g .listing .low) (λ x a b q.
+    sum-of : (k : ℕ → ℕ) (j : ℕ) → j < 9 → ((y : ℕ) → ¬ (y ≡ 0) → zeros (fw w) y ≡ 0 → k (fw w j y) ≡ 0)
+        → total (map (λ x. k (field w j x)) xs) ≡ Sum (val w CACHE-BLOCKS) (λ x. k (D j x))
+    sum-of k j h none =
+        rw (map-field w k j xs o, map-same k (fw w j) (D j) xs (same-of j xs h o))
+        (sym (sum-list (val w CACHE-BLOCKS) xs (λ x. k (D j x)) (lists-dll w (g .listing) .once) o (g .listing .low) (λ x a b q.
         let z : ¬ (x ≡ 0) = λ e. omega arith in
-        sym (field-of j x h z) ∙ none x z (zero-at x (λ r. everywhere w (g .listing) counted x z b (off-join x xs ys q r))))))
+        ap k (sym (field-of j x h z)) ∙ none x z (zero-at x (λ r. everywhere w (g .listing) counted x z b (off-join x xs ys q r))))))
 
     pub stack-holds : form.StackOf (shape w) D xs ys
     stack-holds =
@@ -185,7 +187,7 @@ module _ (w : List ℕ) where
         record {
           used = all-some (Good (fw w) (val w STORE-BLOCKS)) (λ x. (1 ≤ D COUNT x) × (D COUNT x ≤ 65535)) xs o (λ x z h. rw (← field-of COUNT x (omega arith) z) (h .count, h .most)) (g .good);
           idle = zero-all (λ y. D COUNT y ≡ 0) (λ y z h q. sym (field-of COUNT y (omega arith) z) ∙ omega arith);
-          sum = g .numbers .sum ∙ sum-of 1 (omega arith) (λ y z q. omega arith);
+          sum = g .numbers .sum ∙ sum-of (λ n. n) 1 (omega arith) (λ y z q. omega arith);
         }
 
     chain-one : (i : ℕ) → 1 ≤ i → i ≤ val w CHAIN-LIMIT → Dll (D CHAIN-TO-TAIL) (D CHAIN-TO-HEAD) (D CHAIN-HEADS i) (D CHAIN-TAILS i) (chain (D COUNT) i xs)
@@ -255,8 +257,9 @@ module _ (w : List ℕ) where
         let q : zeros (fw w) x ≡ 0 = zero-at x (idle x a b c) in
         sym (field-of MODIFIED x (omega arith) z) ∙ omega arith
 
-    mark-small : (x : ℕ) → 1 ≤ x → x ≤ val w CACHE-BLOCKS → Dec (D COUNT x ≡ 0) → D MODIFIED x ≤ 1
-    mark-small x a b (yes c) = omega (arith, mark-none x a b c)
+    mark-small : (x : ℕ) → 1 ≤ x → x ≤ val w CACHE-BLOCKS → Dec (D COUNT x ≡ 0) → T (isModifiedWord (D MODIFIED x))
+    unfolding isModifiedWord
+    mark-small x a b (yes c) = rw (mark-none x a b c) tt
     mark-small x a b (no c) =
         let z : ¬ (x ≡ 0) = λ r. omega arith in
         rw (← field-of MODIFIED x (omega arith) z) (good-at x (resident x a b (omega arith)) .mark)
@@ -268,7 +271,7 @@ module _ (w : List ℕ) where
           bits = λ x a. mark-small x (a .0) (a .1) (ℕ-discrete (D COUNT x) 0);
           idle = λ x a c. mark-none x (a .0) (a .1) c;
           in-read = g .in-read;
-          out-written = rw (← sum-of 3 (omega arith) (λ y z q. omega arith)) (g .out-written);
+          out-written = rw (← sum-of (λ n. n % 2) 3 (omega arith) (λ y z q. let m : fw w MODIFIED y ≡ 0 = omega arith in rw m)) (g .out-written);
         }
 
     pub legal-holds : Legal (shape w)

@@ -171,17 +171,19 @@ module _ (w : List ℕ) (D : Fields) (xs ys : List ℕ) (v : View (shape w) w D)
   unused-at : (x : ℕ) → 1 ≤ x → x ≤ N → Off x xs → In x ys
   unused-at x a b o q = everywhere w listing counted x (λ c. omega arith) b (off-join x xs ys o q)
 
-  sum-of : (j : ℕ) → j < 9 → ((x : ℕ) → 1 ≤ x → x ≤ N → Off x xs → D j x ≡ 0) → total (map (field w j) xs) ≡ Sum N (D j)
-  sum-of j a none =
-      rw (map-field w j xs ox, ← map-same (D j) (fw w j) xs (same-at j xs a ox bx))
-      (sym (sum-list N xs (D j) (lists-dll w listing .once) ox (lower xs bx) none))
+  sum-of : (k : ℕ → ℕ) (j : ℕ) → j < 9 → ((x : ℕ) → 1 ≤ x → x ≤ N → Off x xs → k (D j x) ≡ 0)
+      → total (map (λ x. k (field w j x)) xs) ≡ Sum N (λ x. k (D j x))
+  sum-of k j a none =
+      rw (map-field w k j xs ox, ← map-same k (D j) (fw w j) xs (same-at j xs a ox bx))
+      (sym (sum-list N xs (λ x. k (D j x)) (lists-dll w listing .once) ox (lower xs bx) none))
 
   count-none : (x : ℕ) → 1 ≤ x → x ≤ N → Off x xs → D COUNT x ≡ 0
   count-none x a b o = all-at (λ y. D COUNT y ≡ 0) ys x (h .count .idle) (unused-at x a b o)
 
   numbers : Numbers w xs (listing .fwd) (listing .many) ox
   numbers =
-      let s : val w SUM ≡ total (map (field w COUNT) xs) = head-word 8 (omega arith) (omega arith) (omega arith) ∙ h .count .sum ∙ sym (sum-of 1 (omega arith) count-none) in
+      let s : val w SUM ≡ total (map (field w COUNT) xs) =
+      head-word 8 (omega arith) (omega arith) (omega arith) ∙ h .count .sum ∙ sym (sum-of (λ n. n) 1 (omega arith) count-none) in
       record {
         sum = s;
         average = rw (← s) (t .few-counted);
@@ -309,7 +311,12 @@ module _ (w : List ℕ) (D : Fields) (xs ys : List ℕ) (v : View (shape w) w D)
         bucket = λ j u. b .0 j (omega arith) (omega arith);
         listed = b .1;
         in-read = rw (total-of 20 (omega arith) (omega arith), total-of 16 (omega arith) (omega arith)) (h .flags .in-read);
-        out-written = rw (total-of 22 (omega arith) (omega arith), total-of 18 (omega arith) (omega arith), sum-of 3 (omega arith) mark-none) (h .flags .out-written);
+        out-written =
+            rw (
+              total-of 22 (omega arith) (omega arith),
+              total-of 18 (omega arith) (omega arith),
+              sum-of (λ n. n % 2) 3 (omega arith) (λ x a b o. rw (mark-none x a b o)),
+            ) (h .flags .out-written);
       }
 
   legal-given : LegalSettings (given w)

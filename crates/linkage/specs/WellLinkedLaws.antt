@@ -1,5 +1,5 @@
 -- Sums over the entries, and counts that keep who is resident.
-use Prim.Native.Nat.{ℕ, zero, suc, _+_, _≤_}
+use Prim.Native.Nat.{ℕ, zero, suc, _+_, _%_, _≤_}
 use mathlib.Core.Path.{_≡_, refl, ap}
 use native.Mathlib.Omega.{arith}
 use native.Mathlib.Decide.{ℕ-discrete, decLe}
@@ -30,7 +30,14 @@ sum-upd (suc n) f e v a b = go (ℕ-discrete e (suc n)) (sum-upd n f e v a)
         let r : upd f e v (suc n) ≡ f (suc n) = upd-other f e v (suc n) (omega arith) in
         omega (arith, ih (omega arith))
 
--- an entry has at most what all have
+-- of the lowest bits
+pub sum-bits : (n : ℕ) (f : ℕ → ℕ) (e v : ℕ) → 1 ≤ e → e ≤ n → Sum n (λ x. upd f e v x % 2) + f e % 2 ≡ Sum n (λ x. f x % 2) + v % 2
+sum-bits n f e v a b =
+    rw (sum-same n (λ x. upd f e v x % 2) (upd (λ x. f x % 2) e (v % 2)) (λ x i j. one x (ℕ-discrete x e))) (sum-upd n (λ x. f x % 2) e (v % 2) a b)
+  where
+    one : (x : ℕ) → Dec (x ≡ e) → upd f e v x % 2 ≡ upd (λ x. f x % 2) e (v % 2) x
+    one x (yes q) = rw (q, upd-same f e v, upd-same (λ x. f x % 2) e (v % 2))
+    one x (no q) = rw (upd-other f e v x q, upd-other (λ x. f x % 2) e (v % 2) x q)
 
 -- ---- counts that keep who is resident
 

@@ -42,7 +42,7 @@ fn stack_enter(dir: &mut [u32], at: u32, new: u32, old: u32, e: u32, r: u32)
     words::set_number(dir, layout::RESIDENTS as usize, r + 1);
 }
 
-// Entry e takes the modified mark and the block, into its bucket.
+// Entry e takes the modified word and the block, into its bucket.
 fn fill(dir: &mut [u32], at: u32, bucket: u32, e: u32, block: u32, mark: u32)
     ensures { λ _. ⌜ now (dir .exit) ≡ filled (now (dir .entry)) at bucket e block mark ⌝ }
 {

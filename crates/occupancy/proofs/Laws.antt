@@ -21,12 +21,12 @@ use Rattle.occupancy.specs.Walk.{Shows, Room, Walked}
 -- ---- one resident more
 
 pub shows-more : (residents modified : List ℕ) (l : List (Resident ℕ)) (x : Resident ℕ) (class mark : ℕ)
-    → Legal (x .count) → class ≡ classOf (x .count) → mark ≡ bit (x .modified)
+    → Legal (x .count) → class ≡ classOf (x .count) → mark ≡ bit (x .marks .modified)
     → Shows residents modified l → Shows (raised residents class 1) (raised modified class mark) (l ++ (x ∷ []))
 shows-more residents modified l x class mark legal class-is mark-is shows =
     record {
       residents-are = rw (class-is, shows .residents-are) (sym (column-more (λ y. true) l x legal));
-      modified-are = rw (class-is, mark-is, shows .modified-are) (sym (column-more (λ y. y .modified) l x legal));
+      modified-are = rw (class-is, mark-is, shows .modified-are) (sym (column-more (λ y. y .marks .modified) l x legal));
     }
 
 -- ---- along the stack
@@ -73,7 +73,7 @@ module _ (words : List ℕ) where
           record {
             legal = rw (w .entry) (at-position (λ x. Legal (x .count)) (order words) p inside (sound-kept words h [] .legal));
             residents-few = λ i. rw (w .shows .residents-are) (figure-few (λ x. true) i);
-            modified-few = λ i. rw (w .shows .modified-are) (figure-few (λ x. x .modified) i);
+            modified-few = λ i. rw (w .shows .modified-are) (figure-few (λ x. x .marks .modified) i);
           }
 
       -- behind the resident at position p

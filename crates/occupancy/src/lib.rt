@@ -48,7 +48,8 @@ fn and_resident(dir: &[u32], e: u32, residents: &mut [u32; CLASSES], modified: &
         → Shows (now (residents .exit)) (now (modified .exit)) (l ++ (residentAt (now (dir .entry)) e ∷ []))) ⌝ }
 {
     let class = class_of(directory::count_of(dir, e));
-    let mark = directory::is_modified(dir, e) as u32;
+    let marks = directory::marks_of(dir, e);
+    let mark = marks.modified as u32;
     residents[class] += 1;
     modified[class] += mark;
 }

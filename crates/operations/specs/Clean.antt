@@ -1,5 +1,6 @@
--- A modified resident whose bytes were written out: its mark is cleared, and one block out counted. Assumes nothing.
-use Prim.Native.Nat.{ℕ, zero, suc, _+_, _*_, _≤_, _<_}
+-- The marks of a modified resident change, and no link word: cleared once its bytes were written out, with one block out counted; or a
+-- tick seen. Assumes nothing.
+use Prim.Native.Nat.{ℕ, zero, suc, _+_, _*_, _%_, _≤_, _<_}
 use mathlib.Core.Path.{_≡_, refl, _∙_, sym, ap, ap₂}
 use mathlib.Core.Bool.{Bool, true, false}
 use mathlib.Core.List.{List, [], _∷_}
@@ -12,39 +13,46 @@ use Rattle.basics.specs.Basics.{All, pick, if_then_else_}
 use Rattle.basics.specs.Basics as basics
 use Rattle.links.specs.Upd.{upd}
 use Rattle.words.specs.Words.{setNumber}
-use Rattle.stack.specs.Recency.{Resident, counts, cleaned}
+use Rattle.words.specs.LinkLaws.{Within, within-none, within-then}
+use Rattle.stack.specs.declared.Marks.{Marks}
+use Rattle.stack.specs.Recency.{cleared, sawTick, Resident, remarked, counts}
 use Rattle.layout.specs.Addresses.{COUNT, MODIFIED, READS, WRITES, INS, OUTS}
+use Rattle.layout.specs.ModifiedWord.{marksIn, isModifiedWord}
 use Rattle.layout.specs.Sound.{settingsIn, totalsIn, sound, residentsIn, view}
 use Rattle.layout.specs.SoundLaws.{sound-kept}
-use Rattle.promises.specs.DirectoryPromises.{cleanedAt, oneOut, Cleaned}
+use Rattle.promises.specs.DirectoryPromises.{markedAt, moreOuts, Marked, Cleaned, TickSeen}
 use Rattle.linkage.specs.Fields.{Shape, base, Fields, put, entry, header, inHeader}
 use Rattle.linkage.specs.WellLinked.{Entry, Sum, total}
-use Rattle.linkage.specs.WellLinkedLaws.{sum-upd}
+use Rattle.linkage.specs.WellLinkedLaws.{sum-bits}
 use Rattle.linkage.specs.WordFields.{shape}
 use Rattle.word_ops.specs.Lists.{wordOf}
 use Rattle.word_ops.specs.Clean.{cleaned as cleanedWords}
+use Rattle.word_ops.specs.Mark.{DUE-WORD, tickSeen}
 use Rattle.operations.specs.Directory.{Directory}
 use Rattle.operations.specs.Stores.{view-number}
 use Rattle.operations.specs.Enter.{flags-mark}
 use Rattle.operations.specs.Totals.{raiseTotal, out-total, out-sound}
 use Rattle.operations.specs.Residents.{resident, residentsOf, alive}
-use Rattle.operations.specs.Counted.{same-totals}
-use Rattle.operations.specs.Stands.{Stands}
+use Rattle.operations.specs.Counted.{totalsOf, same-totals}
+use Rattle.operations.specs.BoundParts.{marked-from}
+use Rattle.operations.specs.Bounds.{outs-within}
+use Rattle.operations.specs.MarkLaws.{word-small, none-word, seen-word, cleared-says, seen-says}
+use Rattle.operations.specs.Stands.{Given, Stands}
 use Rattle.operations.specs.SoundWords.{stands-of-sound, read-off}
 
--- the fields then
-abbrev pub cleanD : Fields → ℕ → Fields
-cleanD D e = raiseTotal (put D MODIFIED e 0) OUTS
+-- ---- the directory then
 
-module _ (s : Shape) (w : List ℕ) (D : Fields) (residents unused : List ℕ) (e : ℕ) (here : Entry s e) (live : 1 ≤ D COUNT e) (marked : D MODIFIED e ≡ 1) (g : Directory s w D residents unused) where
-  abbrev E : Fields
-  E = put D MODIFIED e 0
-
-  unmarked : Directory s (setNumber w (wordOf (base s) e MODIFIED) 0) E residents unused
-  unmarked =
+-- with another modified word at e, which says modified only where the one before did
+module _ (s : Shape) (w : List ℕ) (D : Fields) (residents unused : List ℕ) (e : ℕ) (here : Entry s e) (live : 1 ≤ D COUNT e)
+    (g : Directory s w D residents unused) where
+  remarked-sound : (v : ℕ) → T (isModifiedWord v) → v % 2 ≤ D MODIFIED e % 2
+      → Directory s (setNumber w (wordOf (base s) e MODIFIED) v) (put D MODIFIED e v) residents unused
+  remarked-sound v ok room =
       let k = g .linked in
       record {
-        view = view-number s w D (g .view) MODIFIED e (wordOf (base s) e MODIFIED) 0 (entry (omega arith) (here .0) (here .1) refl) refl (omega arith);
+        view =
+            view-number s w D (g .view) MODIFIED e (wordOf (base s) e MODIFIED) v (entry (omega arith) (here .0) (here .1) refl) refl
+            (omega (arith, word-small v ok));
         linked = record {
           legal = k .legal;
           settled = k .settled;
@@ -52,38 +60,58 @@ module _ (s : Shape) (w : List ℕ) (D : Fields) (residents unused : List ℕ) (
           count = k .count;
           chain = k .chain;
           hash = k .hash;
-          flags = flags-mark s (D COUNT) (D MODIFIED) (total D (inHeader READS)) (total D (inHeader WRITES)) (total D (inHeader INS)) (total D (inHeader OUTS)) e 0 here live (omega arith) (omega (arith, k .flags .out-written)) (k .flags);
+          flags =
+              flags-mark s (D COUNT) (D MODIFIED) (total D (inHeader READS)) (total D (inHeader WRITES)) (total D (inHeader INS))
+              (total D (inHeader OUTS)) e v here live ok (omega (arith, k .flags .out-written)) (k .flags);
         };
       }
 
-  -- a mark less than there was
-  out-room : total D (inHeader OUTS) + 1 + Sum (s .N) (upd (D MODIFIED) e 0) ≤ total D (inHeader WRITES)
-  out-room = omega (arith, sum-upd (s .N) (D MODIFIED) e 0 (here .0) (here .1), marked, g .linked .flags .out-written)
+  remarked-within : (v : ℕ) → Within 0 w (setNumber w (wordOf (base s) e MODIFIED) v)
+  remarked-within v = marked-from s w D (g .view) e here 0 w v (within-none w)
 
-  small : (i : ℕ) → (15 < i) × (i < 24) → D (inHeader i) 0 < 268435456
-  small i h = g .view .small (inHeader i) 0 i (header refl refl (h .1) (omega arith) (omega arith))
+  module _ (marked-e : D MODIFIED e % 2 ≡ 1) where
+    abbrev E : Fields
+    E = put D MODIFIED e 0
 
-  pub clean-sound : Directory s (cleanedWords w (base s) e) (cleanD D e) residents unused
-  unfolding cleanedWords
-  clean-sound =
-      out-sound s (setNumber w (wordOf (base s) e MODIFIED) 0) E residents unused unmarked
-      (omega (arith, out-room, small WRITES (omega arith), small (WRITES + 1) (omega arith))) out-room
+    unmarked : Directory s (setNumber w (wordOf (base s) e MODIFIED) 0) E residents unused
+    unmarked = remarked-sound 0 none-word (omega arith)
 
--- the residents then
-clean-seen : (D : Fields) (e : ℕ) (order : List ℕ) → residentsOf (cleanD D e) order ≡ cleanedAt e (residentsOf D order)
+    -- a mark less than there was
+    out-room : total D (inHeader OUTS) + 1 + Sum (s .N) (λ x. upd (D MODIFIED) e 0 x % 2) ≤ total D (inHeader WRITES)
+    out-room = omega (arith, sum-bits (s .N) (D MODIFIED) e 0 (here .0) (here .1), marked-e, g .linked .flags .out-written)
+
+    small : (i : ℕ) → (15 < i) × (i < 24) → D (inHeader i) 0 < 268435456
+    small i h = g .view .small (inHeader i) 0 i (header refl refl (h .1) (omega arith) (omega arith))
+
+    pub clean-sound : Directory s (cleanedWords w (base s) e) (raiseTotal E OUTS) residents unused
+    unfolding cleanedWords
+    clean-sound =
+        out-sound s (setNumber w (wordOf (base s) e MODIFIED) 0) E residents unused unmarked
+        (omega (arith, out-room, small WRITES (omega arith), small (WRITES + 1) (omega arith))) out-room
+
+    clean-within : Within 0 w (cleanedWords w (base s) e)
+    unfolding cleanedWords
+    clean-within = within-then 0 0 w _ _ (remarked-within 0) (outs-within s (setNumber w (wordOf (base s) e MODIFIED) 0) E (unmarked .view))
+
+-- ---- the residents then
+
+remarked-seen : (change : Marks → Marks) (D : Fields) (e v : ℕ) → marksIn v ≡ change (marksIn (D MODIFIED e)) → (order : List ℕ)
+    → residentsOf (put D MODIFIED e v) order ≡ markedAt change e (residentsOf D order)
 unfolding upd
-clean-seen D e [] = refl
-clean-seen D e (x ∷ order) = ap₂ _∷_ (one (eqb x e)) (clean-seen D e order)
+remarked-seen change D e v says [] = refl
+remarked-seen change D e v says (x ∷ order) = ap₂ _∷_ (one (eqb x e) (eqb-true x e)) (remarked-seen change D e v says order)
   where
-    one : (b : Bool) → _≡_ {A = Resident ℕ} (record { block = D 0 x; count = D 1 x; modified = eqb (pick b 0 (D MODIFIED x)) 1; held = x }) (if b then cleaned (resident D x) else resident D x)
-    one true = refl
-    one false = refl
+    one : (b : Bool) → (b ≡ true → x ≡ e)
+        → _≡_ {A = Resident ℕ} (record { block = D 0 x; count = D 1 x; marks = marksIn (pick b v (D MODIFIED x)); held = x })
+        (if b then remarked change (resident D x) else resident D x)
+    one true h = λ i. record { block = D 0 x; count = D 1 x; marks = (says ∙ ap (λ y. change (marksIn (D MODIFIED y))) (sym (h refl))) i; held = x }
+    one false h = refl
 
-clean-sum : (e : ℕ) (l : List (Resident ℕ)) → counts (cleanedAt e l) ≡ counts l
-clean-sum e [] = refl
-clean-sum e (x ∷ l) = ap₂ _∷_ (one (eqb (x .held) e)) (clean-sum e l)
+marked-sum : (change : Marks → Marks) (e : ℕ) (l : List (Resident ℕ)) → counts (markedAt change e l) ≡ counts l
+marked-sum change e [] = refl
+marked-sum change e (x ∷ l) = ap₂ _∷_ (one (eqb (x .held) e)) (marked-sum change e l)
   where
-    one : (b : Bool) → (if b then cleaned x else x) .count ≡ x .count
+    one : (b : Bool) → (if b then remarked change x else x) .count ≡ x .count
     one true = refl
     one false = refl
 
@@ -93,28 +121,70 @@ at-position D P [] p x q a = let z : _≡_ {A = ℕ} 0 1 = cc in absurd (omega a
 at-position D P (e ∷ order) zero x q a = let r : resident D e ≡ x = cc in (rw (← r) (a .0), rw (← r) refl)
 at-position D P (e ∷ order) (suc p) x q a = at-position D P order p x q (a .1)
 
-sums : (w : List ℕ) → T (sound w) → basics.total (counts (residentsIn w)) ≤ settingsIn w .amax * settingsIn w .n
-unfolding view
-sums w h = sound-kept w h [] .sums
+-- ---- the resident at a position, which is modified
 
--- CLEANED: the resident at a position, which is modified.
-pub clean-cleaned : (w : List ℕ) → T (sound w) → (p : ℕ) (x : Resident ℕ) → getElem? (residentsIn w) p ≡ some x → x .modified ≡ true → Cleaned w (x .held) (cleanedWords w (base (shape w)) (x .held))
-clean-cleaned w h p x q marked =
-    let g = stands-of-sound w h in
-    let D : Fields = g .fields in
-    let e : ℕ = x .held in
-    let r = at-position D (λ y. Entry (shape w) y × (1 ≤ D COUNT y)) (g .order) p x (ap (λ l. getElem? l p) (g .seen) ∙ q) (alive (shape w) D (g .order) (g .unused) (g .directory .linked)) in
-    let one : D MODIFIED e ≡ 1 = eqb-true (D MODIFIED e) 1 (sym (ap (λ (y : Resident ℕ). y .modified) (r .1)) ∙ marked) in
-    let after : Stands (settingsIn w) (shape w) (cleanedWords w (base (shape w)) e) (cleanedAt e (residentsIn w)) (oneOut (totalsIn w)) =
-    record {
-      fields = cleanD D e;
-      order = g .order;
-      unused = g .unused;
-      directory = clean-sound (shape w) w D (g .order) (g .unused) e (r .0 .0) (r .0 .1) one (g .directory);
-      seen = clean-seen D e (g .order) ∙ ap (cleanedAt e) (g .seen);
-      counted = same-totals _ _ _ _ _ _ _ _ refl refl refl (out-total (put D MODIFIED e 0)) ∙ ap oneOut (g .counted);
-      given = record { average = g .given .average; bytes = g .given .bytes };
-    } in
-    let few : basics.total (counts (cleanedAt e (residentsIn w))) ≤ settingsIn w .amax * settingsIn w .n = rw (clean-sum e (residentsIn w)) (sums w h) in
-    let a = read-off w h (cleanedWords w (base (shape w)) e) (cleanedAt e (residentsIn w)) (oneOut (totalsIn w)) after few in
-    record { kept = a .kept; residents = a .residents-are; totals = a .totals-are }
+module _ (w : List ℕ) (h : T (sound w)) (p : ℕ) (x : Resident ℕ) (q : getElem? (residentsIn w) p ≡ some x)
+    (modified : x .marks .modified ≡ true) where
+  g : Stands (settingsIn w) (shape w) w (residentsIn w) (totalsIn w)
+  g = stands-of-sound w h
+
+  abbrev D : Fields
+  D = g .fields
+
+  abbrev e : ℕ
+  e = x .held
+
+  at : (Entry (shape w) e × (1 ≤ D COUNT e)) × (x ≡ resident D e)
+  at =
+      at-position D (λ y. Entry (shape w) y × (1 ≤ D COUNT y)) (g .order) p x (ap (λ l. getElem? l p) (g .seen) ∙ q)
+      (alive (shape w) D (g .order) (g .unused) (g .directory .linked))
+
+  says : marksIn (D MODIFIED e) .modified ≡ true
+  says = sym (ap (λ (y : Resident ℕ). y .marks .modified) (at .1)) ∙ modified
+
+  bit-e : D MODIFIED e % 2 ≡ 1
+  unfolding marksIn
+  bit-e = eqb-true (D MODIFIED e % 2) 1 says
+
+  sums : basics.total (counts (residentsIn w)) ≤ settingsIn w .amax * settingsIn w .n
+  unfolding view
+  sums = sound-kept w h [] .sums
+
+  -- words in which e alone has another modified word, with so many blocks out more
+  marked-of : (change : Marks → Marks) (outs v : ℕ) (u : List ℕ) (E : Fields) → Directory (shape w) u E (g .order) (g .unused)
+      → residentsOf E (g .order) ≡ residentsOf (put D MODIFIED e v) (g .order) → marksIn v ≡ change (marksIn (D MODIFIED e))
+      → totalsOf E ≡ moreOuts outs (totalsOf D) → Given (settingsIn w) E → Within 0 w u → Marked change outs w e u
+  marked-of change outs v u E d same new counted given near =
+      let after : Stands (settingsIn w) (shape w) u (markedAt change e (residentsIn w)) (moreOuts outs (totalsIn w)) =
+      record {
+        fields = E;
+        order = g .order;
+        unused = g .unused;
+        directory = d;
+        seen = same ∙ remarked-seen change D e v new (g .order) ∙ ap (markedAt change e) (g .seen);
+        counted = counted ∙ ap (moreOuts outs) (g .counted);
+        given = given;
+      } in
+      let few : basics.total (counts (markedAt change e (residentsIn w))) ≤ settingsIn w .amax * settingsIn w .n =
+      rw (marked-sum change e (residentsIn w)) sums in
+      let a = read-off w h u (markedAt change e (residentsIn w)) (moreOuts outs (totalsIn w)) after few in
+      record { kept = a .kept; residents = a .residents-are; totals = a .totals-are; links-none = omega (arith, near .links) }
+
+  -- CLEANED
+  pub clean-cleaned : Cleaned w (x .held) (cleanedWords w (base (shape w)) (x .held))
+  clean-cleaned =
+      marked-of cleared 1 0 (cleanedWords w (base (shape w)) e) (raiseTotal (put D MODIFIED e 0) OUTS)
+      (clean-sound (shape w) w D (g .order) (g .unused) e (at .0 .0) (at .0 .1) (g .directory) bit-e) refl (cleared-says (marksIn (D MODIFIED e)))
+      (same-totals _ _ _ _ _ _ _ _ refl refl refl (out-total (put D MODIFIED e 0)))
+      (record { average = g .given .average; bytes = g .given .bytes })
+      (clean-within (shape w) w D (g .order) (g .unused) e (at .0 .0) (at .0 .1) (g .directory) bit-e)
+
+  -- A TICK SEEN
+  pub tick-seen : TickSeen w (x .held) (tickSeen w (base (shape w)) (x .held))
+  unfolding tickSeen
+  tick-seen =
+      marked-of sawTick 0 DUE-WORD (tickSeen w (base (shape w)) e) (put D MODIFIED e DUE-WORD)
+      (remarked-sound (shape w) w D (g .order) (g .unused) e (at .0 .0) (at .0 .1) (g .directory) DUE-WORD seen-word (omega (arith, bit-e))) refl
+      (seen-says (marksIn (D MODIFIED e)) says)
+      (same-totals _ _ _ _ _ _ _ _ refl refl refl (omega arith)) (record { average = g .given .average; bytes = g .given .bytes })
+      (remarked-within (shape w) w D (g .order) (g .unused) e (at .0 .0) (at .0 .1) (g .directory) DUE-WORD)

@@ -38,7 +38,8 @@ unfolding misses leaving modifiedCount basics.total
 after-unused true l t = refl
 after-unused false l t = refl
 
-pub after-replacing : (written : Bool) (v : Resident ℕ) (l : List (Resident ℕ)) (t : Totals) → raisedBy t (bit (not written)) (bit written) (bit (not written)) (bit (v .modified)) ≡ totalsAfter written (replacing v l) t
+pub after-replacing : (written : Bool) (v : Resident ℕ) (l : List (Resident ℕ)) (t : Totals)
+    → raisedBy t (bit (not written)) (bit written) (bit (not written)) (bit (v .marks .modified)) ≡ totalsAfter written (replacing v l) t
 unfolding misses leaving modifiedCount basics.total
 after-replacing true v l t = same-totals _ _ _ _ _ _ _ _ refl refl refl (omega arith)
 after-replacing false v l t = same-totals _ _ _ _ _ _ _ _ refl refl refl (omega arith)

@@ -1,17 +1,19 @@
 -- A block enters an unused entry, or that of a victim, over the fields. Assumes nothing.
-use Prim.Native.Nat.{ℕ, _+_, _-_, _≤_, _<_}
+use Prim.Native.Nat.{ℕ, _+_, _-_, _%_, _≤_, _<_}
 use mathlib.Core.Path.{_≡_, _∙_, sym, ap, fun-ext}
 use mathlib.Core.List.{List, _∷_, _++_}
 use native.Mathlib.Omega.{arith}
 use native.Mathlib.Decide.{ℕ-discrete}
+use lib.Dec.{T}
 use Rattle.links.specs.Upd.{upd, upd-same, upd-other}
 use Rattle.links.specs.Off.{off-less}
 use Rattle.links.specs.Run.{same-upd}
 use Rattle.links.specs.All.{all-map-off}
 use Rattle.layout.specs.Addresses.{SUM, READS, WRITES, INS, OUTS, BLOCK, COUNT, SECTION, MODIFIED, CHAIN-TO-HEAD, CHAIN-TO-TAIL, NEXT-SYNONYM}
+use Rattle.layout.specs.ModifiedWord.{isModifiedWord}
 use Rattle.linkage.specs.Fields.{Shape, Fields, CHAIN-HEADS, CHAIN-TAILS, BUCKET-HEADS, inHeader}
 use Rattle.linkage.specs.WellLinked.{WellLinked, StackOf, Count, Chain, ChainOf, Hash, Flags, Entry, Sum, total}
-use Rattle.linkage.specs.WellLinkedLaws.{sum-upd, alive-upd, flags-alive}
+use Rattle.linkage.specs.WellLinkedLaws.{sum-upd, sum-bits, alive-upd, flags-alive}
 use Rattle.operations.specs.FieldOps.{front, count, unhash, stackOn, enterD, replaceD}
 use Rattle.operations.specs.Agree.{all-same}
 use Rattle.operations.specs.Front.{off-e, safe, safe-e, front-stack}
@@ -25,17 +27,18 @@ use Rattle.operations.specs.Rehash.{hash-enter}
 abbrev pub NoneHas : Shape → Fields → ℕ → Type 0
 NoneHas s D block = (x : ℕ) → Entry s x → 1 ≤ D COUNT x → ¬ (D BLOCK x ≡ block)
 
--- the mark set to mark
-pub flags-mark : (s : Shape) (cnt dirty : ℕ → ℕ) (r w i o e mark : ℕ) → Entry s e → 1 ≤ cnt e → mark ≤ 1 → o + Sum (s .N) dirty + mark ≤ w + dirty e → Flags s cnt dirty r w i o → Flags s cnt (upd dirty e mark) r w i o
+-- the modified word set to mark
+pub flags-mark : (s : Shape) (cnt dirty : ℕ → ℕ) (r w i o e mark : ℕ) → Entry s e → 1 ≤ cnt e → T (isModifiedWord mark)
+    → o + Sum (s .N) (λ x. dirty x % 2) + mark % 2 ≤ w + dirty e % 2 → Flags s cnt dirty r w i o → Flags s cnt (upd dirty e mark) r w i o
 flags-mark s cnt dirty r w i o e mark he l b h g =
     record {
       bits = λ x hx. one x hx (ℕ-discrete x e);
       idle = λ x hx q. two x hx q (ℕ-discrete x e);
       in-read = g .in-read;
-      out-written = omega (arith, sum-upd (s .N) dirty e mark (he .0) (he .1), h);
+      out-written = omega (arith, sum-bits (s .N) dirty e mark (he .0) (he .1), h);
     }
   where
-    one : (x : ℕ) → Entry s x → Dec (x ≡ e) → upd dirty e mark x ≤ 1
+    one : (x : ℕ) → Entry s x → Dec (x ≡ e) → T (isModifiedWord (upd dirty e mark x))
     one x h (yes q) = rw (q, upd-same dirty e mark) b
     one x h (no q) = rw (upd-other dirty e mark x q) (g .bits x h)
 
@@ -45,7 +48,7 @@ flags-mark s cnt dirty r w i o e mark he l b h g =
 
 -- the marks there may be, with one of mark more
 abbrev pub Marks : Shape → Fields → ℕ → Type 0
-Marks s D mark = (mark ≤ 1) × (total D (inHeader OUTS) + Sum (s .N) (D MODIFIED) + mark ≤ total D (inHeader WRITES))
+Marks s D mark = T (isModifiedWord mark) × (total D (inHeader OUTS) + Sum (s .N) (λ x. D MODIFIED x % 2) + mark % 2 ≤ total D (inHeader WRITES))
 
 module _ (s : Shape) (D : Fields) (residents : List ℕ) (e : ℕ) (unused : List ℕ) (block mark : ℕ) (room : block < s .M) (absent : NoneHas s D block) (marks : Marks s D mark) (g : WellLinked s D residents (e ∷ unused)) where
   he : Entry s e
@@ -136,8 +139,9 @@ module _ (s : Shape) (D : Fields) (above : List ℕ) (e : ℕ) (below unused : L
       flags-mark s (upd (D COUNT) e 1) (D MODIFIED) _ _ _ _ e mark hv (rw (upd-same (D COUNT) e 1) (omega arith)) (marks .0) (omega (arith, marks .1)) (flags-alive s (D COUNT) (upd (D COUNT) e 1) (D MODIFIED) _ _ _ _ (alive-upd (D COUNT) e 1 live (omega arith)) (g .flags))
 
   -- a block out for the victim's mark has room
-  pub replace-outs : total D (inHeader OUTS) + D MODIFIED e + Sum (s .N) (replaceD s D e (prev-e s D above e below unused g) block mark MODIFIED) ≤ total D (inHeader WRITES)
-  replace-outs = omega (arith, sum-upd (s .N) (D MODIFIED) e mark (hv .0) (hv .1), marks .1)
+  pub replace-outs : total D (inHeader OUTS) + D MODIFIED e % 2 + Sum (s .N)
+      (λ x. replaceD s D e (prev-e s D above e below unused g) block mark MODIFIED x % 2) ≤ total D (inHeader WRITES)
+  replace-outs = omega (arith, sum-bits (s .N) (D MODIFIED) e mark (hv .0) (hv .1), marks .1)
 
   pub replace-linked : WellLinked s (replaceD s D e (prev-e s D above e below unused g) block mark) (e ∷ (above ++ below)) unused
   replace-linked =

@@ -4,9 +4,10 @@ use mathlib.Core.Path.{_≡_, refl}
 use mathlib.Core.Bool.{Bool, true, false}
 use mathlib.Core.List.{List}
 use native.Mathlib.Omega.{arith}
-use lib.Dec.{leb}
+use lib.Dec.{T, leb}
 use Rattle.basics.specs.Basics.{pick}
 use Rattle.words.specs.Words.{val, setLink, setNumber}
+use Rattle.layout.specs.ModifiedWord.{isModifiedWord}
 use Rattle.layout.specs.Addresses.{RESIDENTS, HEAD, TAIL, NEW-BOUNDARY, OLD-BOUNDARY, UNUSED, BLOCK, SECTION, MODIFIED, TO-HEAD, TO-TAIL, NEXT-SYNONYM}
 use Rattle.linkage.specs.Fields.{Shape, base, Fields, setF, put, put1, kind, Address, bucket, header, BUCKET-HEADS, inHeader, View, view-get}
 use Rattle.linkage.specs.WellLinked.{Entry}
@@ -17,6 +18,7 @@ use Rattle.word_ops.specs.Buckets.{bucketJoined}
 use Rattle.operations.specs.Stores.{view-id, view-link, view-number, view-link1, view-number1, address-prev}
 use Rattle.operations.specs.FieldOps.{rise, pop, riseOld, riseBoth, stackOn, rehash}
 use Rattle.operations.specs.Seen.{address, view-stack-in}
+use Rattle.operations.specs.MarkLaws.{word-small}
 
 -- who comes to stand where a section begins
 abbrev pub Rising : Shape → Fields → ℕ → Type 0
@@ -79,7 +81,10 @@ module _ (s : Shape) (w : List ℕ) (D : Fields) (g : View s w D) (few : s .N < 
       rw (view-get s w D g BUCKET-HEADS b i sb)
       (view-link s w2 D2 g2 BUCKET-HEADS b i e sb refl (omega (arith, he .1)))
 
-pub view-filled : (s : Shape) (w : List ℕ) (D : Fields) (g : View s w D) (few : s .N < 268435456) (e n m : ℕ) → Entry s e → n < 268435456 → m ≤ 1 → s .hash n < s .nb → View s (filled w (base s) (24 + 2 * s .cmax + s .hash n) e n m) (rehash s (put D MODIFIED e m) e n)
+pub view-filled : (s : Shape) (w : List ℕ) (D : Fields) (g : View s w D) (few : s .N < 268435456) (e n m : ℕ) → Entry s e → n < 268435456
+    → T (isModifiedWord m) → s .hash n < s .nb → View s (filled w (base s) (24 + 2 * s .cmax + s .hash n) e n m) (rehash s (put D MODIFIED e m) e n)
 unfolding filled
 view-filled s w D g few e n m he hn hm hb =
-    view-bucketJoined s (setNumber w (wordOf (base s) e MODIFIED) m) (put D MODIFIED e m) (view-number s w D g MODIFIED e (wordOf (base s) e MODIFIED) m (address s MODIFIED e (wordOf (base s) e MODIFIED) (omega arith) he refl) refl (omega arith)) few e n he hn hb
+    view-bucketJoined s (setNumber w (wordOf (base s) e MODIFIED) m) (put D MODIFIED e m)
+    (view-number s w D g MODIFIED e (wordOf (base s) e MODIFIED) m (address s MODIFIED e (wordOf (base s) e MODIFIED) (omega arith) he refl) refl
+    (omega (arith, word-small m hm))) few e n he hn hb

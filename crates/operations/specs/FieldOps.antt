@@ -82,7 +82,7 @@ unchain s D e = put (put (chainOut (leb (D COUNT e) (s .cmax)) D (D COUNT e) e) 
 abbrev pub unhash : Fields → ℕ → ℕ → ℕ → Fields
 unhash D b q e = put (ringPut D NEXT-SYNONYM BUCKET-HEADS b q (D NEXT-SYNONYM e)) NEXT-SYNONYM e 0
 
--- block, count and modified mark of an entry that is no resident any more
+-- block, count and modified word of an entry that is no resident any more
 abbrev pub blank : Fields → ℕ → Fields
 blank D e = put1 (put (put (put D BLOCK e 0) MODIFIED e 0) COUNT e 0) (inHeader SUM) (D (inHeader SUM) 0 - D COUNT e)
 

@@ -1,22 +1,23 @@
 -- A block that no resident has is read or written: the totals, then the entry or the replacement. Assumes nothing.
-use Prim.Native.Nat.{ℕ, suc, _+_, _*_, _<_, _-_, _^_}
+use Prim.Native.Nat.{ℕ, suc, _+_, _*_, _<_, _-_, _%_, _^_}
 use mathlib.Core.Path.{_≡_, refl}
 use mathlib.Core.Bool.{Bool, true, false}
 use mathlib.Core.List.{List, _∷_, _++_}
 use native.Mathlib.Omega.{arith}
-use lib.Dec.{eqb}
 use borrow.Author.Tests.{eqb-true}
 use Rattle.basics.specs.Basics.{pick, bit}
 use Rattle.layout.specs.Addresses.{SUM, HEAD, TAIL, READS, WRITES, INS, OUTS, BLOCK, MODIFIED}
 use Rattle.linkage.specs.Fields.{Shape, base, Fields, header, inHeader}
 use Rattle.linkage.specs.WellLinked.{total}
 use Rattle.word_ops.specs.Enter.{entered, replaced}
+use Rattle.word_ops.specs.Mark.{isMarked}
 use Rattle.word_ops.specs.Totals.{totalRaised, accessCounted, inCounted, outCounted}
 use Rattle.operations.specs.Directory.{Directory}
 use Rattle.operations.specs.FieldOps.{enterD, replaceD}
 use Rattle.operations.specs.Purge.{prev-e}
 use Rattle.operations.specs.Enter.{NoneHas, Marks, replace-outs}
 use Rattle.operations.specs.EnterSound.{enter-sound}
+use Rattle.operations.specs.MarkLaws.{entered-word}
 use Rattle.operations.specs.ReplaceSound.{replace-sound}
 use Rattle.operations.specs.Totals.{raiseTotal, read-total, write-total, read-sound, write-sound, in-sound, out-sound}
 
@@ -65,12 +66,12 @@ module _ (s : Shape) (w : List ℕ) (D : Fields) (residents unused : List ℕ) (
 
   -- a mark for a write has room
   pub access-marks : (written : Bool) → Marks s (accessD written D) (bit written)
-  access-marks true = (omega arith, omega (arith, write-total D, g .linked .flags .out-written))
-  access-marks false = (omega arith, omega (arith, g .linked .flags .out-written))
+  access-marks true = (entered-word true, omega (arith, write-total D, g .linked .flags .out-written))
+  access-marks false = (entered-word false, omega (arith, g .linked .flags .out-written))
 
   pub miss-marks : (written : Bool) → Marks s (missD written D) (bit written)
-  miss-marks true = (omega arith, omega (arith, write-total D, g .linked .flags .out-written))
-  miss-marks false = (omega arith, omega (arith, g .linked .flags .out-written))
+  miss-marks true = (entered-word true, omega (arith, write-total D, g .linked .flags .out-written))
+  miss-marks false = (entered-word false, omega (arith, g .linked .flags .out-written))
 
 miss-none : (s : Shape) (D : Fields) (block : ℕ) (written : Bool) → NoneHas s D block → NoneHas s (missD written D) block
 miss-none s D block true a = a
@@ -105,7 +106,9 @@ module _ (s : Shape) (w : List ℕ) (D : Fields) (above : List ℕ) (e : ℕ) (b
   replaced-sound true = replace-sound s (missCounted true w) (missD true D) above e below unused block 1 sum room absent (miss-marks s w D (above ++ (e ∷ below)) unused some g true) (miss-sound s w D (above ++ (e ∷ below)) unused some g true)
   replaced-sound false = replace-sound s (missCounted false w) (missD false D) above e below unused block 0 sum room absent (miss-marks s w D (above ++ (e ∷ below)) unused some g false) (miss-sound s w D (above ++ (e ∷ below)) unused some g false)
 
-  counted-out : (written : Bool) → D MODIFIED e ≡ 1 → Directory s (totalRaised (replacedFor s w (D BLOCK e) e block written) OUTS (OUTS + 1)) (raiseTotal (before-out written) OUTS) (e ∷ (above ++ below)) unused
+  counted-out : (written : Bool) → D MODIFIED e % 2 ≡ 1
+      → Directory s (totalRaised (replacedFor s w (D BLOCK e) e block written) OUTS (OUTS + 1)) (raiseTotal (before-out written) OUTS)
+      (e ∷ (above ++ below)) unused
   counted-out true q =
       let h = replace-outs s (missD true D) above e below unused block 1 room absent (miss-marks s w D (above ++ (e ∷ below)) unused some g true) (miss-sound s w D (above ++ (e ∷ below)) unused some g true .linked) in
       out-sound s (replacedFor s w (D BLOCK e) e block true) (before-out true) (e ∷ (above ++ below)) unused (replaced-sound true) (outs s w D (above ++ (e ∷ below)) unused some g) (omega (arith, h, q))
@@ -113,10 +116,15 @@ module _ (s : Shape) (w : List ℕ) (D : Fields) (above : List ℕ) (e : ℕ) (b
       let h = replace-outs s (missD false D) above e below unused block 0 room absent (miss-marks s w D (above ++ (e ∷ below)) unused some g false) (miss-sound s w D (above ++ (e ∷ below)) unused some g false .linked) in
       out-sound s (replacedFor s w (D BLOCK e) e block false) (before-out false) (e ∷ (above ++ below)) unused (replaced-sound false) (outs s w D (above ++ (e ∷ below)) unused some g) (omega (arith, h, q))
 
-  pub replace-miss : (written : Bool) → Directory s (outCounted (D MODIFIED e) (replacedFor s w (D BLOCK e) e block written)) (outIf (eqb (D MODIFIED e) 1) (before-out written)) (e ∷ (above ++ below)) unused
+  pub replace-miss : (written : Bool)
+      → Directory s (outCounted (D MODIFIED e) (replacedFor s w (D BLOCK e) e block written)) (outIf (isMarked (D MODIFIED e)) (before-out written))
+      (e ∷ (above ++ below)) unused
   unfolding outCounted
-  replace-miss written = go (eqb (D MODIFIED e) 1) refl
+  replace-miss written = go (isMarked (D MODIFIED e)) refl
     where
-      go : (out : Bool) → eqb (D MODIFIED e) 1 ≡ out → Directory s (pick out (totalRaised (replacedFor s w (D BLOCK e) e block written) OUTS (OUTS + 1)) (replacedFor s w (D BLOCK e) e block written)) (outIf out (before-out written)) (e ∷ (above ++ below)) unused
-      go true q = counted-out written (eqb-true (D MODIFIED e) 1 q)
+      go : (out : Bool) → isMarked (D MODIFIED e) ≡ out
+          → Directory s
+          (pick out (totalRaised (replacedFor s w (D BLOCK e) e block written) OUTS (OUTS + 1)) (replacedFor s w (D BLOCK e) e block written))
+          (outIf out (before-out written)) (e ∷ (above ++ below)) unused
+      go true q = counted-out written (eqb-true (D MODIFIED e % 2) 1 q)
       go false q = replaced-sound written

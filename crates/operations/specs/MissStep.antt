@@ -5,7 +5,6 @@ use mathlib.Core.Path.{_≡_, refl, _∙_, sym, ap, subst}
 use mathlib.Core.Bool.{Bool, true, false, not}
 use mathlib.Core.List.{List, _∷_, _++_}
 use native.Mathlib.Omega.{arith}
-use lib.Dec.{eqb}
 use lib.ListN.{length}
 use Rattle.basics.specs.Basics.{All, bit}
 use Rattle.links.specs.All.{all-here}
@@ -15,10 +14,12 @@ use Rattle.stack.specs.Counts.{victim}
 use Rattle.stack.specs.Recency.{Place, counts, place, asked}
 use Rattle.stack.specs.Stack.{Totals}
 use Rattle.layout.specs.Addresses.{SUM, BLOCK, COUNT, MODIFIED}
+use Rattle.layout.specs.ModifiedWord.{marksIn}
 use Rattle.linkage.specs.Fields.{Shape, Fields, base, inHeader, view-get}
 use Rattle.linkage.specs.WellLinked.{Entry}
 use Rattle.word_ops.specs.Lists.{wordOf}
 use Rattle.word_ops.specs.Buckets.{found}
+use Rattle.word_ops.specs.Mark.{isMarked}
 use Rattle.word_ops.specs.Totals.{outCounted}
 use Rattle.layout.specs.declared.Found.the-variants.{Absent}
 use Rattle.operations.specs.Directory.{Directory}
@@ -100,17 +101,22 @@ module _ (t : Settings) (s : Shape) (of : Of t s) (w : List ℕ) (D : Fields) (s
     abbrev residents : List ℕ
     residents = above ++ (e ∷ below)
 
-    place-is-old : (written : Bool) → raisedBy (totalsOf D) (bit (not written)) (bit written) (bit (not written)) (bit (eqb (D MODIFIED e) 1)) ≡ totalsAfter written (place t block (residentsOf D residents)) (totalsOf D)
+    place-is-old : (written : Bool)
+        → raisedBy (totalsOf D) (bit (not written)) (bit written) (bit (not written)) (bit (isMarked (D MODIFIED e)))
+        ≡ totalsAfter written (place t block (residentsOf D residents)) (totalsOf D)
+    unfolding marksIn
     place-is-old written =
         after-replacing written (resident D e) (residentsOf D (above ++ below)) (totalsOf D)
         ∙ sym (ap (λ (q : Place ℕ). totalsAfter written q (totalsOf D)) (place-replacing t D block above e below (missing s D residents unused block (g .linked) absent) (full ∙ sym (of .blocks-is)) chosen))
 
-    out-is : (written : Bool) → totalsOf (outIf (eqb (D MODIFIED e) 1) (before-out s w D above e below unused block some small room absent g written)) ≡ raisedBy (totalsOf (missD written D)) 0 0 0 (bit (eqb (D MODIFIED e) 1))
-    out-is written = out-totals (before-out s w D above e below unused block some small room absent g written) (eqb (D MODIFIED e) 1)
+    out-is : (written : Bool)
+        → totalsOf (outIf (isMarked (D MODIFIED e)) (before-out s w D above e below unused block some small room absent g written))
+        ≡ raisedBy (totalsOf (missD written D)) 0 0 0 (bit (isMarked (D MODIFIED e)))
+    out-is written = out-totals (before-out s w D above e below unused block some small room absent g written) (isMarked (D MODIFIED e))
 
     replace-here : (written : Bool) → After residents e written (outCounted (D MODIFIED e) (replacedFor s w (D BLOCK e) e block written))
     replace-here true =
-        let out : Bool = eqb (D MODIFIED e) 1 in
+        let out : Bool = isMarked (D MODIFIED e) in
         let E : Fields = before-out s w D above e below unused block some small room absent g true in
         let h = miss-sound s w D residents unused some g true .linked in
         record {
@@ -120,10 +126,10 @@ module _ (t : Settings) (s : Shape) (of : Of t s) (w : List ℕ) (D : Fields) (s
           directory = replace-miss s w D above e below unused block some small room absent g true;
           seen = out-residents E out (e ∷ (above ++ below)) ∙ replace-residents t s (missD true D) above e below unused block of absent h full chosen (prev-e s (missD true D) above e below unused h) true;
           counted = out-is true ∙ ap (λ (v : Totals). raisedBy v 0 0 0 (bit out)) (miss-totals D true) ∙ raised-twice (totalsOf D) 0 1 0 (bit out) ∙ place-is-old true;
-          given = out-given (eqb (D MODIFIED e) 1) E (record { average = given .average; bytes = given .bytes });
+          given = out-given (isMarked (D MODIFIED e)) E (record { average = given .average; bytes = given .bytes });
         }
     replace-here false =
-        let out : Bool = eqb (D MODIFIED e) 1 in
+        let out : Bool = isMarked (D MODIFIED e) in
         let E : Fields = before-out s w D above e below unused block some small room absent g false in
         let h = miss-sound s w D residents unused some g false .linked in
         record {
@@ -133,7 +139,7 @@ module _ (t : Settings) (s : Shape) (of : Of t s) (w : List ℕ) (D : Fields) (s
           directory = replace-miss s w D above e below unused block some small room absent g false;
           seen = out-residents E out (e ∷ (above ++ below)) ∙ replace-residents t s (missD false D) above e below unused block of absent h full chosen (prev-e s (missD false D) above e below unused h) false;
           counted = out-is false ∙ ap (λ (v : Totals). raisedBy v 0 0 0 (bit out)) (miss-totals D false) ∙ raised-twice (totalsOf D) 1 0 1 (bit out) ∙ place-is-old false;
-          given = out-given (eqb (D MODIFIED e) 1) E (record { average = given .average; bytes = given .bytes });
+          given = out-given (isMarked (D MODIFIED e)) E (record { average = given .average; bytes = given .bytes });
         }
 
   replace-at : (residents above : List ℕ) (e : ℕ) (below unused : List ℕ) (written : Bool) → residents ≡ above ++ (e ∷ below) → NoneHas s D block → Directory s w D residents unused → length residents ≡ s .N → length above ≡ victim t (counts (residentsOf D residents)) → After residents e written (outCounted (D MODIFIED e) (replacedFor s w (D BLOCK e) e block written))

@@ -8,7 +8,7 @@ use mathlib.Core.Option.{Option, none, some}
 use mathlib.Core.List.{List, [], _∷_}
 use native.Mathlib.Omega.{arith}
 use native.Mathlib.Nat.{mul-le-mul}
-use lib.Dec.{T, ltb, eqb}
+use lib.Dec.{T, ltb}
 use borrow.Author.Tests.{le-ltb}
 use Rattle.basics.specs.Basics.{All, pick}
 use Rattle.basics.specs.Basics as basics
@@ -26,6 +26,7 @@ use Rattle.stack.specs.PlaceLaws.{Placed, placed}
 use Rattle.stack.specs.SumLaws.{sum, asked-sum, replacing-calm, Calm, settled-sum}
 use Rattle.stack.specs.KeepLaws.{fewer, asked-few, Kept}
 use Rattle.layout.specs.Addresses.{SUM, UNUSED, BLOCK, COUNT, SECTION, MODIFIED}
+use Rattle.layout.specs.ModifiedWord.{marksIn}
 use Rattle.layout.specs.Sound.{settingsIn, totalsIn, sound, residentAt, residentsIn, view}
 use Rattle.layout.specs.SoundLaws.{sound-legal, sound-kept}
 use Rattle.promises.specs.Promises.{halved}
@@ -37,6 +38,7 @@ use Rattle.word_ops.specs.Hit.{raisedCount}
 use Rattle.word_ops.specs.Victim.{victimFrom}
 use Rattle.word_ops.specs.Purge.{purged}
 use Rattle.word_ops.specs.Halve.{halved as halvedWords}
+use Rattle.word_ops.specs.Mark.{isMarked}
 use Rattle.word_ops.specs.Totals.{outCounted}
 use Rattle.layout.specs.declared.Found.{Found}
 use Rattle.layout.specs.declared.Found.the-variants.{At, Absent}
@@ -200,8 +202,11 @@ module _ (w : List ℕ) (h : T (sound w)) where
 
   -- A BLOCK that no resident has REPLACES the victim, where no entry is unused. Counts are not halved: the sum does not rise.
   pub replace-accessed : (block : ℕ) (written : Bool) → Room w → block < t .m → lookup block l ≡ none → val w UNUSED ≡ 0
-      → Accessed 20 w block written victimEntry (replaced (val w (wordOf (base s) victimEntry BLOCK)) (victimFrom w (base s) (s .cmax) 1 .chains) (eqb (val w (wordOf (base s) victimEntry MODIFIED)) 1)) (replaceWords block written)
-  unfolding entryFor answering settingsIn
+      → Accessed 20 w block written victimEntry
+      (replaced (val w (wordOf (base s) victimEntry BLOCK)) (victimFrom w (base s) (s .cmax) 1 .chains)
+      (isMarked (val w (wordOf (base s) victimEntry MODIFIED))))
+      (replaceWords block written)
+  unfolding entryFor answering marksIn settingsIn
   replace-accessed block written r inside gone none-left =
       let here = absent-of block gone in
       let q = place-replaced t s of w l (totalsIn w) g block (s .N) (omega arith) here none-left in
@@ -210,7 +215,9 @@ module _ (w : List ℕ) (h : T (sound w)) where
       let calm = subst (Calm t l) q (replacing-calm t l (kept .legal) (placeOf w block) (placed t l (kept .some-old) (kept .old-fits) (kept .few) (kept .legal) block)) block written victimEntry in
       let few : sum (askedOf w block written victimEntry) ≤ t .amax * t .n = rw q (let b = kept .sums in omega arith) in
       let within : overLimit u ≡ false = le-ltb (t .amax * t .n) (val u SUM) (rw (stands-sum t s u (askedOf w block written victimEntry) (accessTotals (totalsIn w) written (placeOf w block)) of gu) few) in
-      let answer = replaced (val w (wordOf (base s) victimEntry BLOCK)) (victimFrom w (base s) (s .cmax) 1 .chains) (eqb (val w (wordOf (base s) victimEntry MODIFIED)) 1) in
+      let answer =
+      replaced (val w (wordOf (base s) victimEntry BLOCK)) (victimFrom w (base s) (s .cmax) 1 .chains)
+      (isMarked (val w (wordOf (base s) victimEntry MODIFIED))) in
       subst (λ b. Accessed 20 w block written victimEntry answer (pick b (halvedWords u (base s) (s .cmax)) u)) within
       (settled-accessed 20 block victimEntry written u gu (replace-links t s of w l (totalsIn w) g block (s .N) written r inside (omega arith) here none-left)
       (rw q refl) (rw q tt) answer (rw (q, ← looked-word t s of w l (totalsIn w) g none-left) refl) (λ c. rw within tt))

@@ -3,10 +3,12 @@ use Prim.Native.Nat.{ℕ, suc, _+_, _*_, _≤_, _<_}
 use mathlib.Core.Path.{_≡_}
 use mathlib.Core.List.{List, _∷_, _++_}
 use native.Mathlib.Omega.{arith}
+use lib.Dec.{T}
 use Rattle.basics.specs.AllLaws.{all-left}
 use Rattle.links.specs.Off.{off-left, distinct-off}
 use Rattle.links.specs.Run.{last}
 use Rattle.links.specs.All.{all-last, all-next}
+use Rattle.layout.specs.ModifiedWord.{isModifiedWord}
 use Rattle.layout.specs.Addresses.{SUM, BLOCK, COUNT, SECTION, NEXT-SYNONYM}
 use Rattle.linkage.specs.Fields.{Shape, base, Fields, BUCKET-HEADS, inHeader, View}
 use Rattle.linkage.specs.WellLinked.{WellLinked, Entry}
@@ -24,7 +26,9 @@ use Rattle.operations.specs.EnterSeen.{view-filled}
 use Rattle.operations.specs.Purge.{live-e, here-e, prev-e, prev-e-is}
 use Rattle.operations.specs.Enter.{NoneHas, Marks, replace-linked}
 
-module _ (s : Shape) (w : List ℕ) (D : Fields) (above : List ℕ) (e : ℕ) (below unused : List ℕ) (block mark : ℕ) (small : D (inHeader SUM) 0 < 268435455) (room : block < s .M) (marks : mark ≤ 1) (g : Directory s w D (above ++ (e ∷ below)) unused) (hashed : s .hash (D BLOCK e) < s .nb) (live : 1 ≤ D COUNT e) where
+module _ (s : Shape) (w : List ℕ) (D : Fields) (above : List ℕ) (e : ℕ) (below unused : List ℕ) (block mark : ℕ)
+    (small : D (inHeader SUM) 0 < 268435455) (room : block < s .M) (marks : T (isModifiedWord mark))
+    (g : Directory s w D (above ++ (e ∷ below)) unused) (hashed : s .hash (D BLOCK e) < s .nb) (live : 1 ≤ D COUNT e) where
   abbrev h : WellLinked s D (above ++ (e ∷ below)) unused
   h = g .linked
 

@@ -1,5 +1,5 @@
 -- A total goes up by one, and the directory stays sound. Assumes nothing.
-use Prim.Native.Nat.{ℕ, _+_, _*_, _≤_, _<_, _-_, _^_}
+use Prim.Native.Nat.{ℕ, _+_, _*_, _≤_, _<_, _-_, _%_, _^_}
 use mathlib.Core.Path.{_≡_, refl}
 use mathlib.Core.Bool.{Bool, true, false}
 use mathlib.Core.List.{List}
@@ -133,7 +133,8 @@ module _ (s : Shape) (w : List ℕ) (D : Fields) (residents unused : List ℕ) (
       }
 
   -- a block out is counted, after the mark was cleared
-  pub out-sound : total D (inHeader OUTS) < 2 ^ 56 - 1 → total D (inHeader OUTS) + 1 + Sum (s .N) (D MODIFIED) ≤ total D (inHeader WRITES) → Directory s (totalRaised w OUTS (OUTS + 1)) (raiseTotal D OUTS) residents unused
+  pub out-sound : total D (inHeader OUTS) < 2 ^ 56 - 1 → total D (inHeader OUTS) + 1 + Sum (s .N) (λ x. D MODIFIED x % 2) ≤ total D (inHeader WRITES)
+      → Directory s (totalRaised w OUTS (OUTS + 1)) (raiseTotal D OUTS) residents unused
   out-sound m l =
       let h = g .linked in
       record {

@@ -6,7 +6,7 @@ use mathlib.Core.Bool.{Bool}
 use mathlib.Core.List.{List, [], _∷_, _++_}
 use mathlib.Core.Option.{Option, none, some}
 use native.Mathlib.Omega.{arith}
-use lib.Dec.{eqb, ltb}
+use lib.Dec.{ltb}
 use lib.ListN.{length}
 use Rattle.links.specs.All.{all-here}
 use Rattle.basics.specs.Basics.{All}
@@ -16,6 +16,7 @@ use Rattle.stack.specs.Counts.{chains, exceeds}
 use Rattle.stack.specs.Recency.{Resident, counts, place, asked, lookup, removed}
 use Rattle.stack.specs.Stack.{Totals}
 use Rattle.layout.specs.Addresses.{SUM, HEAD, TAIL, UNUSED, READS, WRITES, BLOCK, COUNT, MODIFIED}
+use Rattle.layout.specs.ModifiedWord.{marksIn}
 use Rattle.linkage.specs.Fields.{Shape, Fields, base, header, inHeader, view-get}
 use Rattle.linkage.specs.WellLinked.{Entry}
 use Rattle.word_ops.specs.Lists.{wordOf}
@@ -45,7 +46,12 @@ pub record Room (w : List ℕ) : Type 0 where
 -- an entry, as the words have it
 abbrev pub residentAt : Shape → List ℕ → ℕ → Resident ℕ
 residentAt s w e =
-    record { block = val w (wordOf (base s) e BLOCK); count = val w (wordOf (base s) e COUNT); modified = eqb (val w (wordOf (base s) e MODIFIED)) 1; held = e }
+    record {
+      block = val w (wordOf (base s) e BLOCK);
+      count = val w (wordOf (base s) e COUNT);
+      marks = marksIn (val w (wordOf (base s) e MODIFIED));
+      held = e;
+    }
 
 -- what the code's lookup of a block yields
 abbrev pub foundIn : Shape → List ℕ → ℕ → ℕ → Found
@@ -81,7 +87,12 @@ module _ (t : Settings) (s : Shape) (of : Of t s) (w : List ℕ) (l : List (Resi
 
   pub resident-word : (e : ℕ) → Entry s e → resident D e ≡ residentAt s w e
   resident-word e he =
-      λ i. record { block = word BLOCK (omega arith) i; count = word COUNT (omega arith) i; modified = eqb (word MODIFIED (omega arith) i) 1; held = e }
+      λ i. record {
+        block = word BLOCK (omega arith) i;
+        count = word COUNT (omega arith) i;
+        marks = marksIn (word MODIFIED (omega arith) i);
+        held = e;
+      }
     where
       word : (j : ℕ) → j < 9 → D j e ≡ val w (wordOf (base s) e j)
       word j h = sym (view-get s w D (g .directory .view) j e (wordOf (base s) e j) (address s j e (wordOf (base s) e j) h he refl))

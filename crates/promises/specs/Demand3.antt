@@ -1,6 +1,6 @@
 -- Demand 3 (SCOPE, "The demands"): every list of calls that begins with an accepted fresh and goes on with batches, each
 -- linked to the next by its promise alone, beside the plain stack over the same list. Statements only.
-use Prim.Native.Nat.{ℕ, _*_, _/_, _^_, _≤_, _<_}
+use Prim.Native.Nat.{ℕ, _*_, _≤_}
 use mathlib.Core.Path.{_≡_}
 use mathlib.Core.Logic.{_≢_}
 use mathlib.Core.Bool.{not}
@@ -15,7 +15,7 @@ use Rattle.stack.specs.Batch.{Call, Result, work, AllReported, batch}
 use Rattle.stack.specs.Entries.{Cache, plain}
 use Rattle.layout.specs.Layout.{freshWords}
 use Rattle.layout.specs.Sound.{settingsIn, sound}
-use Rattle.promises.specs.Promises.{over, Fresh, Slices, cacheIn, behind, callOf, halved, Batch}
+use Rattle.promises.specs.Promises.{over, Fresh, Slices, cacheIn, behind, callOf, halved, isStill, Batch}
 
 -- ---- the calls of a list
 
@@ -86,7 +86,7 @@ abbrev pub shown : Memory → Cache
 shown m = cacheIn (m .directory) (m .bytes) (take (settingsIn (m .directory) .m * settingsIn (m .directory) .b) (m .store))
 
 -- The directory is sound; settings, totals, store and residents are the plain stack's, these in the same order, each with the same
--- block, count, mark and bytes; and behind the front of M blocks the store is `rest`.
+-- block, count, marks and bytes; and behind the front of M blocks the store is `rest`.
 pub record Alike (m : Memory) (k : Plain) (rest : List ℕ) : Type 0 where
   pub is-sound : T (sound (m .directory))
   pub same : plain (shown m) ≡ k
@@ -119,15 +119,22 @@ Demand3 =
 
 -- ---- the link bound
 
--- from every sound directory: a batch of one read, write or purge that doesn't halve the counts
+-- from every sound directory: a batch of one word, of whatever kind, that doesn't halve the counts
 abbrev pub LinkBound : Type 0
 LinkBound =
     (w : ℕ) (incoming : List ℕ) (before : Slices) (n : ℕ) (after : Slices)
     → T (sound (before .directory))
     → Batch (w ∷ []) incoming before n after
-    → w / 2 ^ 28 < 4
     → All (λ a. T (not (halved a))) (batch (plain (behind before)) (callOf (w ∷ []) incoming before) .ran .answers)
     → linksChanged (before .directory) (after .directory) ≤ 20
+
+-- and a flush or a tick changes no link word
+abbrev pub LinksStay : Type 0
+LinksStay =
+    (w : ℕ) (incoming : List ℕ) (before : Slices) (n : ℕ) (after : Slices)
+    → Batch (w ∷ []) incoming before n after
+    → T (isStill (work (settingsIn (before .directory)) w))
+    → linksChanged (before .directory) (after .directory) ≡ 0
 
 -- ---- when a directory is past fresh
 

@@ -13,7 +13,8 @@ use Rattle.basics.specs.Basics.{if_then_else_}
 use Rattle.words.specs.Links.{linksChanged}
 use Rattle.settings.specs.Buckets.{directoryLength}
 use Rattle.stack.specs.Counts.{chains, exceeds}
-use Rattle.stack.specs.Recency.{Resident, Place, counts, cleaned, place, asked, settled, removed}
+use Rattle.stack.specs.declared.Marks.{Marks}
+use Rattle.stack.specs.Recency.{cleared, sawTick, Resident, remarked, Place, counts, place, asked, settled, removed}
 use Rattle.stack.specs.Stack.{Totals, Answer, accessTotals, answering}
 use Rattle.stack.specs.Entries.{entryFor, PickAt}
 use Rattle.layout.specs.Addresses.{TO-TAIL}
@@ -66,18 +67,29 @@ pub record Purged (links : ℕ) (before : List ℕ) (block : ℕ) (after : List 
   pub totals : totalsIn after ≡ totalsIn before
   pub links-few : linksChanged before after ≤ links
 
--- ---- a resident whose bytes were written out
+-- ---- a resident whose marks change
 
-abbrev pub cleanedAt : ℕ → List (Resident ℕ) → List (Resident ℕ)
-cleanedAt entry = map (λ x. if eqb (x .held) entry then cleaned x else x)
+-- the one at an entry
+abbrev pub markedAt : (Marks → Marks) → ℕ → List (Resident ℕ) → List (Resident ℕ)
+markedAt change entry = map (λ x. if eqb (x .held) entry then remarked change x else x)
 
-abbrev pub oneOut : Totals → Totals
-oneOut t = record { reads = t .reads; writes = t .writes; ins = t .ins; outs = t .outs + 1 }
+abbrev pub moreOuts : ℕ → Totals → Totals
+moreOuts n t = record { reads = t .reads; writes = t .writes; ins = t .ins; outs = t .outs + n }
 
-pub record Cleaned (before : List ℕ) (entry : ℕ) (after : List ℕ) : Type 0 where
+-- with so many blocks out; no link word changes
+pub record Marked (change : Marks → Marks) (outs : ℕ) (before : List ℕ) (entry : ℕ) (after : List ℕ) : Type 0 where
   pub kept : Kept before after
-  pub residents : residentsIn after ≡ cleanedAt entry (residentsIn before)
-  pub totals : totalsIn after ≡ oneOut (totalsIn before)
+  pub residents : residentsIn after ≡ markedAt change entry (residentsIn before)
+  pub totals : totalsIn after ≡ moreOuts outs (totalsIn before)
+  pub links-none : linksChanged before after ≡ 0
+
+-- its bytes were written out, a block out
+abbrev pub Cleaned : List ℕ → ℕ → List ℕ → Type 0
+Cleaned = Marked cleared 1
+
+-- it has seen a tick
+abbrev pub TickSeen : List ℕ → ℕ → List ℕ → Type 0
+TickSeen = Marked sawTick 0
 
 -- ---- reading along the stack
 

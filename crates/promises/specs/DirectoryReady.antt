@@ -50,4 +50,4 @@ pub record CleanReady (words : List ℕ) (e : ℕ) : Type 0 where
   pub resident : Resident ℕ
   pub here : getElem? (residentsIn words) position ≡ some resident
   pub entry : resident .held ≡ e
-  pub modified : resident .modified ≡ true
+  pub modified : resident .marks .modified ≡ true

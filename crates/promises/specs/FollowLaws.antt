@@ -18,8 +18,8 @@ use Rattle.stack.specs.BatchLaws.{Fits, allowed, batch-declined}
 use Rattle.layout.specs.Sound.{settingsIn, totalsIn, sound, view}
 use Rattle.promises.specs.Promises.{over, Fresh, Slices, behind, callOf, numberOf, halved, Accepted, Batch}
 use Rattle.promises.specs.SliceLaws.{number-sound, accepted-same, accepted-reported, after-settings, after-bytes, after-store}
-use Rattle.promises.specs.Demand3.{Memory, Lending, lends, leaves, Linked, end, call, asCall, starts, shown, Alike, Agrees, Follows, Demand3, LinkBound}
-use Rattle.promises.specs.Demand3.{Idle, refused, wordless, memoryLeft, StillFresh}
+use Rattle.promises.specs.Demand3.{Memory, Lending, lends, leaves, Linked, end, call, asCall, starts, shown, Alike, Agrees, Follows, Demand3, LinkBound, LinksStay}
+use Rattle.promises.specs.Demand3.{Idle, refused, wordless, memoryLeft, stackLeft, StillFresh}
 
 -- ---- slices beside the memory that they are lent from
 
@@ -139,6 +139,12 @@ follow k rest alike (call {m = m} {c = c} {n = n} {after = after} fits fits′ p
     (goes m c fits fits′ (alike .is-sound) n after promise)) in
     call alike (now .0) (follow (batch k (asCall c) .ran .after) rest (now .1) next)
 
+-- alike at the end
+pub follows-alike : {rest : List ℕ} {m : Memory} {k : Plain} {cs : List Lending} {ts : List (ℕ × Slices)} → Follows rest m k cs ts
+    → Alike (memoryLeft m cs ts) (stackLeft k cs) rest
+follows-alike (end alike) = alike
+follows-alike (call alike agrees later) = follows-alike later
+
 -- Demand 3, once fresh words are shown sound and empty.
 pub demand3-from : ((s : Settings) (before directory bytes store : List ℕ) → Fresh s before 0 directory
     → Alike (record { directory = directory; bytes = bytes; store = store }) (starts s store) (drop (s .m * s .b) store)) → Demand3
@@ -148,13 +154,17 @@ demand3-from begins s before directory bytes store cs ts fresh linked = follow (
 
 pub link-bound : LinkBound
 unfolding numberOf plainRan
-link-bound w incoming before zero after h promise kind calm =
+link-bound w incoming before zero after h promise calm =
     let (picked, acc) = promise .accepted refl in
     let e : batchNumber (settingsIn (before .directory)) (totalsIn (before .directory)) (callOf (w ∷ []) incoming before) ≡ 0 = sym (promise .returned ∙ number-sound (w ∷ []) incoming before h) in
-    acc .links w refl kind (subst (λ r. All (λ a. T (not (halved a))) (r .answers)) (accepted-same (w ∷ []) incoming before h e after picked acc) calm)
-link-bound w incoming before (suc n) after h promise kind calm =
+    acc .links w refl (subst (λ r. All (λ a. T (not (halved a))) (r .answers)) (accepted-same (w ∷ []) incoming before h e after picked acc) calm)
+link-bound w incoming before (suc n) after h promise calm =
     let same = promise .declined (omega arith) in
     rw (same, changed-same (before .directory)) (omega arith)
+
+pub links-stay : LinksStay
+links-stay w incoming before zero after promise still = let (picked, acc) = promise .accepted refl in acc .links-stay w refl still
+links-stay w incoming before (suc n) after promise still = rw (promise .declined (omega arith)) (changed-same (before .directory))
 
 -- ---- until a word is carried out
 

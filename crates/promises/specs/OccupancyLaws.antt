@@ -20,8 +20,8 @@ use Rattle.words.specs.Words.{val}
 use Rattle.layout.specs.Addresses.{RESIDENTS, BLOCK, COUNT, SECTION, MODIFIED, TO-HEAD, CHAIN-TO-HEAD, CHAIN-TO-TAIL, NEXT-SYNONYM}
 use Rattle.layout.specs.Sound.{settingsIn, field, order, unusedEntries, stackTests, sound, residentAt, residentsIn, view}
 use Rattle.layout.specs.SoundLaws.{stack-passes, sound-kept}
-use Rattle.promises.specs.Promises.{Slices}
-use Rattle.promises.specs.Demand3.{Memory, Lending, Alike, Follows, end, call, memoryLeft, stackLeft}
+use Rattle.promises.specs.Demand3.{Memory, Alike}
+use Rattle.promises.specs.FollowLaws.{follows-alike}
 use Rattle.promises.specs.Demand3Laws.{demand3}
 use Rattle.promises.specs.Occupancy.{occupancyNumber, noFigures, tableIn, OneClass, modifiedIn, AddsUp, TableAlike, PlainTable}
 use Rattle.stack.specs.Occupancy.{column, Table, table}
@@ -60,7 +60,7 @@ module _ (words : List ℕ) (h : T (sound words)) where
   legal = sound-kept words h [] .legal
 
   abbrev mark : ℕ → ℕ
-  mark e = bit (residentAt words e .modified)
+  mark e = bit (residentAt words e .marks .modified)
 
   -- what is 0 in an unused entry
   abbrev values : ℕ → ℕ
@@ -89,8 +89,8 @@ module _ (words : List ℕ) (h : T (sound words)) where
   all-marks : modifiedIn words ≡ modifiedCount (residentsIn words)
   unfolding modifiedCount
   all-marks =
-      sum-map (λ x. bit (x .modified)) (residentAt words) (counting 1 (settingsIn words .n))
-      ∙ entry-marks ∙ sym (sum-map (λ x. bit (x .modified)) (residentAt words) (order words))
+      sum-map (λ x. bit (x .marks .modified)) (residentAt words) (counting 1 (settingsIn words .n))
+      ∙ entry-marks ∙ sym (sum-map (λ x. bit (x .marks .modified)) (residentAt words) (order words))
 
   pub residents-add-up : total (tableIn words .residents) ≡ val words RESIDENTS
   unfolding stackTests
@@ -119,10 +119,6 @@ alike-table {m = m} alike =
           ∙ ap (λ (x : Plain). table (x .residents)) (alike .same),
     )
 
-follows-table : {rest : List ℕ} {m : Memory} {k : Plain} {cs : List Lending} {ts : List (ℕ × Slices)} → Follows rest m k cs ts
-    → TableAlike (memoryLeft m cs ts) (stackLeft k cs)
-follows-table (end alike) = alike-table alike
-follows-table (call alike agrees later) = follows-table later
-
 pub plain-table : PlainTable
-plain-table s before directory bytes store cs ts fresh linked = follows-table (demand3 s before directory bytes store cs ts fresh linked)
+plain-table s before directory bytes store cs ts fresh linked =
+    alike-table (follows-alike (demand3 s before directory bytes store cs ts fresh linked))

@@ -1,10 +1,10 @@
 -- What fresh and a batch promise (SCOPE, "When a call declines", "What every call owes"), over the directory's words, the data
 -- buffer, the store, answers and outgoing. Every word and byte stands in an equation; open are the entries picked, the unused
 -- list's order and that of synonyms.
-use Prim.Native.Nat.{ℕ, _*_, _/_, _^_, _≤_, _<_}
+use Prim.Native.Nat.{ℕ, _*_, _≤_}
 use mathlib.Core.Path.{_≡_}
 use mathlib.Core.Logic.{_≢_}
-use mathlib.Core.Bool.{Bool, false, not}
+use mathlib.Core.Bool.{Bool, true, false, not}
 use mathlib.Core.List.{List, [], _∷_, _++_, map}
 use lib.ListN.{length, take, drop}
 use lib.Dec.{T}
@@ -12,7 +12,7 @@ use Rattle.basics.specs.Basics.{All, if_then_else_}
 use Rattle.words.specs.Links.{linksChanged}
 use Rattle.settings.specs.declared.Settings.{Settings}
 use Rattle.settings.specs.Buckets.{directoryLength}
-use Rattle.stack.specs.Stack.{Work, Answer, hit, entered, replaced, purged, absent, flushed, answerWord}
+use Rattle.stack.specs.Stack.{Work, read, write, purge, flush, tick, invalid, Answer, hit, entered, replaced, purged, absent, flushed, answerWord}
 use Rattle.stack.specs.Batch.{Call, Ran, work, batchNumber}
 use Rattle.stack.specs.Entries.{Cache, entryRun, Picks}
 use Rattle.layout.specs.Layout.{freshWords, freshNumber}
@@ -78,6 +78,10 @@ halved (purged d) = false
 halved absent = false
 halved (flushed n) = false
 
+-- whether a word leaves all link words as they are: a flush or a tick
+abbrev pub isStill : Work → Bool
+isStill = elim [ read b ↦ false | write b ↦ false | purge b ↦ false | flush ↦ true | tick ↦ true | invalid ↦ false ]
+
 -- An accepted batch, with the entries picked: one beside each word, of weight where its block enters an unused entry.
 module _ (words incoming : List ℕ) (before after : Slices) (picked : List (Work × ℕ)) where
   abbrev s : Settings
@@ -98,8 +102,10 @@ module _ (words incoming : List ℕ) (before after : Slices) (picked : List (Wor
     pub bytes-past : drop (s .n * s .b) (after .bytes) ≡ drop (s .n * s .b) (before .bytes)
     -- an empty batch changes nothing, what is left open neither
     pub empty-batch : words ≡ [] → after ≡ before
-    -- one read, write or purge that doesn't halve the counts
-    pub links : (w : ℕ) → words ≡ w ∷ [] → w / 2 ^ 28 < 4 → All (λ a. T (not (halved a))) (ran .answers) → linksChanged (before .directory) (after .directory) ≤ 20
+    -- one word, of whatever kind, that doesn't halve the counts
+    pub links : (w : ℕ) → words ≡ w ∷ [] → All (λ a. T (not (halved a))) (ran .answers) → linksChanged (before .directory) (after .directory) ≤ 20
+    -- one flush or tick
+    pub links-stay : (w : ℕ) → words ≡ w ∷ [] → T (isStill (work s w)) → linksChanged (before .directory) (after .directory) ≡ 0
 
 pub record Batch (words incoming : List ℕ) (before : Slices) (n : ℕ) (after : Slices) : Type 0 where
   pub returned : n ≡ numberOf words incoming before

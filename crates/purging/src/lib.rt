@@ -89,7 +89,7 @@ fn unchain(dir: &mut [u32], at: u32, cmax: u32, e: u32, count: u32)
     chain_links_clear(dir, at, e);
 }
 
-// Block, modified mark and count of entry e become 0, and the count goes off the sum.
+// Block, modified word and count of entry e become 0, and the count goes off the sum.
 fn blank(dir: &mut [u32], at: u32, e: u32, count: u32)
     ensures { λ _. ⌜ now (dir .exit) ≡ blanked (now (dir .entry)) at e count ⌝ }
 {

@@ -145,7 +145,8 @@ fn walk_ok(
         }
         let c = check_stack::field(entries, layout::COUNT, e);
         s += c as u64;
-        marks += check_stack::field(entries, layout::MODIFIED, e) as u64;
+        let w = check_stack::field(entries, layout::MODIFIED, e);
+        marks += (w % 2) as u64;
         check_lists::note(&mut last, c, e);
         young = met_at(p, new, e, young);
         old = met_at(p, mid, e, old);

@@ -42,4 +42,4 @@ pub record Table : Type 0 where
   pub modified : List ℕ
 
 abbrev pub table : {A : Type 0} → List (Resident A) → Table
-table l = record { residents = column (λ x. true) l; modified = column (λ x. x .modified) l }
+table l = record { residents = column (λ x. true) l; modified = column (λ x. x .marks .modified) l }

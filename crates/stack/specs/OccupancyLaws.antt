@@ -216,7 +216,7 @@ residents-sum l legal = column-sum (λ x. true) l legal ∙ sum-ones l
 
 pub modified-sum : {A : Type 0} (l : List (Resident A)) → All (λ x. Legal (x .count)) l → total (table l .modified) ≡ modifiedCount l
 unfolding modifiedCount
-modified-sum l legal = column-sum (λ x. x .modified) l legal
+modified-sum l legal = column-sum (λ x. x .marks .modified) l legal
 
 -- ---- what residents hold makes no difference
 
@@ -231,7 +231,7 @@ module _ {A B : Type 0} (f : A → B) (l : List (Resident A)) where
       go (k ∷ ks) = ap₂ _∷_ (sum-map (λ x. bit (test x && inClass (x .count) k)) (hold f) l) (go ks)
 
   pub table-hold : table (map (hold f) l) ≡ table l
-  table-hold = ap₂ columns (held-column (λ x. true)) (held-column (λ x. x .modified))
+  table-hold = ap₂ columns (held-column (λ x. true)) (held-column (λ x. x .marks .modified))
     where
       columns : List ℕ → List ℕ → Table
       columns residents modified = record { residents = residents; modified = modified }

@@ -4,9 +4,6 @@ ghost use Rattle.word_ops.specs.Totals.{totalRaised, accessCounted, inCounted, 
 // The highest value of a word.
 const VALUE_MOST: u32 = 268435455;
 
-// A modified mark that is set.
-const MARKED: u32 = 1;
-
 // The total in the words `low`, its value mod 2^28, and `high`, its value div 2^28, goes up by one.
 pub fn total_raise(dir: &mut [u32], low: u32, high: u32)
     ensures { λ _. ⌜ now (dir .exit) ≡ totalRaised (now (dir .entry)) low high ⌝ }
@@ -42,11 +39,11 @@ pub fn in_count(dir: &mut [u32], written: bool)
     total_raise(dir, layout::INS, layout::INS + 1);
 }
 
-// A block out more, where the modified mark was set.
+// A block out more, where the modified word says modified.
 pub fn out_count(dir: &mut [u32], mark: u32)
     ensures { λ _. ⌜ now (dir .exit) ≡ outCounted mark (now (dir .entry)) ⌝ }
 {
-    if mark == MARKED {
+    if mark % 2 == layout::MARKED {
         total_raise(dir, layout::OUTS, layout::OUTS + 1);
     }
 }

@@ -28,7 +28,7 @@ stackEntered w at new old e r =
     at NEW-BOUNDARY new r)
     RESIDENTS (r + 1)
 
--- the modified mark and the block of e
+-- the modified word and the block of e
 unfoldable pub filled : List ℕ → ℕ → ℕ → ℕ → ℕ → ℕ → List ℕ
 filled w at bucket e block mark = bucketJoined (setNumber w (wordOf at e MODIFIED) mark) at bucket e block
 

@@ -45,7 +45,7 @@ chainLinksCleared w at e = setLink (setLink w (wordOf at e CHAIN-TO-HEAD) 0) (wo
 unfoldable pub unchained : List ℕ → ℕ → ℕ → ℕ → ℕ → List ℕ
 unchained w at cmax e count = chainLinksCleared (chainLeft w at cmax e count) at e
 
--- block, modified mark and count 0
+-- block, modified word and count 0
 unfoldable pub blanked : List ℕ → ℕ → ℕ → ℕ → List ℕ
 blanked w at e count =
     setNumber (setNumber (setNumber (setNumber w (wordOf at e BLOCK) 0) (wordOf at e MODIFIED) 0) (wordOf at e COUNT) 0) SUM (val w SUM - count)

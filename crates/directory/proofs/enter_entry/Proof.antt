@@ -3,15 +3,15 @@ use Rattle.directory.proofs.enter_entry.Statement.{statement}
 use Rattle.directory.proofs.enter_entry.Tie as tie
 use Rattle.directory.proofs.enter_entry.Reads as reads
 use Rattle.directory.proofs.enter_entry.Lts as lts
-use Rattle.directory.proofs.mark_of.Reads as mark-of-reads
+use Rattle.directory.proofs.entered_word.Reads as entered-word-reads
 use Rattle.misses.proofs.enter.Reads as enter-reads
 use Rattle.directory.proofs.miss_count.Reads as miss-count-reads
 
 miss-count-requires : tie.Need-miss-count-requires
 miss-count-requires c κs = search needs
 
-mark-of-requires : tie.Need-mark-of-requires
-mark-of-requires c κs = search needs
+entered-word-requires : tie.Need-entered-word-requires
+entered-word-requires c κs = search needs
 
 enter-requires : tie.Need-enter-requires
 enter-requires c κs = search needs
@@ -23,7 +23,7 @@ returns : tie.Need-returns
 returns c =
     rw (
       c .before .before .enter .ensures,
-      c .before .before .before .mark-of .ensures,
+      c .before .before .before .entered-word .ensures,
       c .before .before .before .before .before .before .before .miss-count .ensures,
     )
 
@@ -32,7 +32,7 @@ enter-entry-spec =
     tie.close
     (tie.spec
     miss-count-requires
-    mark-of-requires
+    entered-word-requires
     enter-requires
     same-length
     returns)

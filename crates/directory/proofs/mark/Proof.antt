@@ -1,13 +1,24 @@
+use Rattle.word_ops.specs.Mark.{markWritten}
 use borrow.Author.Needs.{needs}
 use Rattle.directory.proofs.mark.Statement.{statement}
 use Rattle.directory.proofs.mark.Tie as tie
 use Rattle.directory.proofs.mark.Reads as reads
 use Rattle.directory.proofs.mark.Lts as lts
 use Rattle.lists.proofs.word_of.Reads as word-of-reads
+use Rattle.words.proofs.get.Reads as get-reads
 use Rattle.words.proofs.set_number.Reads as set-number-reads
 
 word-of-requires : tie.Need-word-of-requires
 word-of-requires c κs = search needs
+
+get-requires : tie.Need-get-requires
+get-requires c κs = search needs
+
+sub-set-number : tie.Need-sub-set-number
+sub-set-number c = search needs
+
+add-set-number : tie.Need-add-set-number
+add-set-number c = search needs
 
 set-number-requires : tie.Need-set-number-requires
 set-number-requires c κs = search needs
@@ -16,10 +27,25 @@ same-length : tie.Need-same-length
 same-length c = search needs
 
 returns : tie.Need-returns
-returns c = rw (c .before .before .before .before .before .if1 .taken, c .before .before .set-number .ensures, c .before .before .before .word-of .ensures)
+unfolding markWritten
+returns c =
+    let stored = c .before .before in
+    let got = stored .before .before in
+    let worded = got .before .before in
+    rw (worded .before .if1 .taken, stored .set-number .ensures, got .get .ensures, worded .word-of .ensures)
 
 returns-2 : tie.Need-returns-2
 returns-2 c = search needs
 
 pub mark-spec : {M : Type 1} → statement M
-mark-spec = tie.close (tie.spec word-of-requires set-number-requires same-length returns returns-2)
+mark-spec =
+    tie.close
+    (tie.spec
+    word-of-requires
+    get-requires
+    sub-set-number
+    add-set-number
+    set-number-requires
+    same-length
+    returns
+    returns-2)

@@ -3,7 +3,7 @@ use Rattle.directory.proofs.replace_entry.Statement.{statement}
 use Rattle.directory.proofs.replace_entry.Tie as tie
 use Rattle.directory.proofs.replace_entry.Reads as reads
 use Rattle.directory.proofs.replace_entry.Lts as lts
-use Rattle.directory.proofs.mark_of.Reads as mark-of-reads
+use Rattle.directory.proofs.entered_word.Reads as entered-word-reads
 use Rattle.misses.proofs.replace.Reads as replace-reads
 use Rattle.directory.proofs.miss_count.Reads as miss-count-reads
 use Rattle.totals.proofs.out_count.Reads as out-count-reads
@@ -11,8 +11,8 @@ use Rattle.totals.proofs.out_count.Reads as out-count-reads
 miss-count-requires : tie.Need-miss-count-requires
 miss-count-requires c κs = search needs
 
-mark-of-requires : tie.Need-mark-of-requires
-mark-of-requires c κs = search needs
+entered-word-requires : tie.Need-entered-word-requires
+entered-word-requires c κs = search needs
 
 replace-requires : tie.Need-replace-requires
 replace-requires c κs = search needs
@@ -28,7 +28,7 @@ returns c =
     rw (
       c .before .before .out-count .ensures,
       c .before .before .before .before .before .before .replace .ensures,
-      c .before .before .before .before .before .before .before .mark-of .ensures,
+      c .before .before .before .before .before .before .before .entered-word .ensures,
       c .before .before .before .before .before .before .before .before .before .before .before .miss-count .ensures,
     )
 
@@ -37,7 +37,7 @@ replace-entry-spec =
     tie.close
     (tie.spec
     miss-count-requires
-    mark-of-requires
+    entered-word-requires
     replace-requires
     out-count-requires
     same-length

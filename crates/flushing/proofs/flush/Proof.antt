@@ -18,10 +18,12 @@ use Rattle.directory.proofs.residents.Reads as residents-reads
 use Rattle.flushing.proofs.flush_entry.Reads as flush-entry-reads
 
 abbrev Inv-loop : tie.InvT-loop
-Inv-loop dir₀ bytes store₀ size count e₀ written₀ p₀ dir store e written p = Flushing (memory dir₀ bytes store₀) p (memory dir bytes store) written × (e ≡ entryAt (residentsIn dir₀) p) × (p ≤ count) × (written ≤ p) × (length dir ≡ length dir₀) × (length store ≡ length store₀)
+Inv-loop dir₀ bytes store₀ size tick count e₀ written₀ p₀ dir store e written p =
+    Flushing tick (memory dir₀ bytes store₀) p (memory dir bytes store) written × (e ≡ entryAt (residentsIn dir₀) p) × (p ≤ count) × (written ≤ p) ×
+    (length dir ≡ length dir₀) × (length store ≡ length store₀)
 
 abbrev μ-loop : tie.MeasureT-loop
-μ-loop dir₀ bytes store₀ size count e₀ written₀ p₀ dir store e written p = count - p
+μ-loop dir₀ bytes store₀ size tick count e₀ written₀ p₀ dir store e written p = count - p
 
 residents-requires : tie.Need-residents-requires Inv-loop μ-loop
 residents-requires c κs = search needs
@@ -30,7 +32,8 @@ first-requires : tie.Need-first-requires Inv-loop μ-loop
 first-requires c κs = search needs
 
 loop-holds : tie.Need-loop-holds Inv-loop μ-loop
-loop-holds c = (flush-start _ (c .before .before .before .before .before .before .before .pre .0), c .first .ensures, omega arith, omega arith, refl, refl)
+loop-holds c =
+    (flush-start _ _ (c .before .before .before .before .before .before .before .pre .0), c .first .ensures, omega arith, omega arith, refl, refl)
 
 next-requires : tie.Need-next-requires Inv-loop μ-loop
 next-requires c κs = c .before .before .loop .inv .0 .kept .sound-after
@@ -39,7 +42,8 @@ flush-entry-requires : tie.Need-flush-entry-requires Inv-loop μ-loop
 flush-entry-requires c κs =
     let l = c .before .before .before .before .before .loop in
     let s = c .before .before .before .before .before .before .before .before .before .before .before .before .before in
-    entry-ready _ (s .pre .0) _ _ _ (l .inv .0) _ (c .before .before .before .before .before .before .before .before .residents .ensures) (c .before .before .before .before .loop-test .taken) _ (l .inv .1) _ (s .pre .1)
+    entry-ready _ _ (s .pre .0) _ _ _ (l .inv .0) _ (c .before .before .before .before .before .before .before .before .residents .ensures)
+    (c .before .before .before .before .loop-test .taken) _ (l .inv .1) _ (s .pre .1)
 
 add-written : tie.Need-add-written Inv-loop μ-loop
 add-written c =
@@ -59,8 +63,9 @@ loop-again c =
     let l = i .before .loop in
     let s = c .before .before .before .before .before .before .before .before .before .before .before .before .before .before .before .before .before .before in
     let n = c .before .before .before .before .before .before .before .before .before .before .before .before .before .residents in (
-      f .ensures .0 _ _ _ (s .pre .0) (l .inv .0) (standing _ (s .pre .0) _ _ _ (l .inv .0) _ (n .ensures) (i .loop-test .taken) _ (l .inv .1)),
-      behind-is _ (s .pre .0) _ _ _ (l .inv .0) _ (n .ensures) (i .loop-test .taken) _ (l .inv .1) _ (c .before .before .before .before .before .before .before .next .ensures),
+      f .ensures .0 _ _ _ (s .pre .0) (l .inv .0) (standing _ _ (s .pre .0) _ _ _ (l .inv .0) _ (n .ensures) (i .loop-test .taken) _ (l .inv .1)),
+      behind-is _ _ (s .pre .0) _ _ _ (l .inv .0) _ (n .ensures) (i .loop-test .taken) _ (l .inv .1) _
+          (c .before .before .before .before .before .before .before .next .ensures),
       omega (arith, i .loop-test .taken),
       omega (arith, f .ensures .1, l .inv .3),
       f .kept .0 ∙ l .inv .4,
@@ -78,7 +83,7 @@ returns c =
     let l = c .before .loop in
     let s = c .before .before .before .before .before .before .before .before .before in
     let n = c .before .before .before .before .residents in (
-      flush-carried _ (s .pre .0) (l .inv .0) (omega (arith, n .ensures, c .loop-test .left)),
+      flush-carried _ _ (s .pre .0) (l .inv .0) (omega (arith, n .ensures, c .loop-test .left)),
       omega (arith, n .ensures, l .inv .2, l .inv .3, residents-few _ (s .pre .0)),
     )
 

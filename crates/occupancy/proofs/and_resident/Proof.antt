@@ -14,7 +14,7 @@ use Rattle.occupancy.proofs.and_resident.Tie as tie
 use Rattle.occupancy.proofs.and_resident.Reads as reads
 use Rattle.occupancy.proofs.and_resident.Lts as lts
 use Rattle.directory.proofs.count_of.Reads as count-of-reads
-use Rattle.directory.proofs.is_modified.Reads as is-modified-reads
+use Rattle.directory.proofs.marks_of.Reads as marks-of-reads
 use Rattle.occupancy.proofs.class_of.Reads as class-of-reads
 
 -- the count has a class
@@ -36,15 +36,15 @@ count-of-requires c κs = search needs
 class-of-requires : tie.Need-class-of-requires
 class-of-requires c κs = search needs
 
-is-modified-requires : tie.Need-is-modified-requires
-is-modified-requires c κs = search needs
+marks-of-requires : tie.Need-marks-of-requires
+marks-of-requires c κs = search needs
 
 cast-mark : tie.Need-cast-mark
 cast-mark c = search needs
 
 element-copy-out-residents : tie.Need-element-copy-out-residents
 element-copy-out-residents c =
-    let k = c .before in
+    let k = c .before .before in
     class-fits _ _ _ (k .class-of .ensures) (k .before .count-of .ensures) (k .before .before .before .pre .1 .legal)
 
 mul-residents : tie.Need-mul-residents
@@ -52,9 +52,9 @@ mul-residents c = let h = element-copy-out-residents c in search needs
 
 add-residents : tie.Need-add-residents
 add-residents c =
-    let k = c .before .before in
+    let k = c .before .before .before in
     let h = k .before .before .before .pre .1 .residents-few (k .class-of .result) in
-    let g = mark-few (c .before .is-modified .result) in
+    let g = mark-few (c .before .before .marks-of .result .modified) in
     search needs
 
 element-write-residents : tie.Need-element-write-residents
@@ -68,9 +68,9 @@ mul-modified c = mul-residents (c .before)
 
 add-modified : tie.Need-add-modified
 add-modified c =
-    let k = c .before .before .before in
+    let k = c .before .before .before .before in
     let h = k .before .before .before .pre .1 .modified-few (k .class-of .result) in
-    let g = mark-few (c .before .before .is-modified .result) in
+    let g = mark-few (c .before .before .before .marks-of .result .modified) in
     search needs
 
 element-write-modified : tie.Need-element-write-modified
@@ -78,12 +78,13 @@ element-write-modified c = element-copy-out-residents (c .before .before)
 
 returns : tie.Need-returns
 returns c =
-    let m = c .before .before .is-modified in
-    let k = c .before .before .before in
+    let m = c .before .before .before .marks-of in
+    let k = c .before .before .before .before in
     let s = k .before .before .before in
     λ l shows.
     shows-more (s .args .residents .now) (s .args .modified .now) l _ _ _
-    (s .pre .1 .legal) (k .class-of .ensures ∙ ap classOf (k .before .count-of .ensures)) (mark-is (m .result) ∙ ap bit (m .ensures)) shows
+    (s .pre .1 .legal) (k .class-of .ensures ∙ ap classOf (k .before .count-of .ensures))
+    (mark-is (m .result .modified) ∙ ap (λ x. bit (x .modified)) (m .ensures)) shows
 
 pub and-resident-spec : {M : Type 1} → statement M
 and-resident-spec =
@@ -91,7 +92,7 @@ and-resident-spec =
     (tie.spec
     count-of-requires
     class-of-requires
-    is-modified-requires
+    marks-of-requires
     cast-mark
     mul-residents
     element-copy-out-residents

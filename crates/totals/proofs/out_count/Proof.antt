@@ -1,3 +1,5 @@
+use Prim.Native.Nat.{ℕ, _%_}
+use native.Mathlib.Omega.{arith}
 use borrow.Author.Needs.{needs}
 use borrow.Author.Tests.{eq-eqb, ne-eqb}
 use Rattle.word_ops.specs.Totals.{outCounted}
@@ -19,12 +21,16 @@ same-length c = search needs
 returns : tie.Need-returns
 unfolding outCounted
 returns c =
-    let p1 = c .before .before in
-    rw (eq-eqb _ _ (c .before .before .before .before .if1 .taken), p1 .total-raise .ensures)
+    let raised = c .before .before in
+    let marked = raised .before .before in
+    let word : ℕ = marked .before .before .args .mark in
+    rw (eq-eqb (word % 2) 1 (omega (arith, marked .if1 .taken)), raised .total-raise .ensures)
 
 returns-2 : tie.Need-returns-2
 unfolding outCounted
-returns-2 c = rw (ne-eqb _ _ (c .if1 .left))
+returns-2 c =
+    let word : ℕ = c .before .before .args .mark in
+    rw (ne-eqb (word % 2) 1 (c .if1 .left))
 
 pub out-count-spec : {M : Type 1} → statement M
 out-count-spec =

@@ -1,0 +1,33 @@
+use Rattle.directory.proofs.Laws.{tick-returns}
+use borrow.Author.Needs.{needs}
+use Rattle.directory.proofs.see_tick.Statement.{statement}
+use Rattle.directory.proofs.see_tick.Tie as tie
+use Rattle.directory.proofs.see_tick.Reads as reads
+use Rattle.directory.proofs.see_tick.Lts as lts
+use Rattle.directory.proofs.entries_at.Reads as entries-at-reads
+use Rattle.lists.proofs.word_of.Reads as word-of-reads
+use Rattle.words.proofs.set_number.Reads as set-number-reads
+
+entries-at-requires : tie.Need-entries-at-requires
+entries-at-requires c κs = search needs
+
+word-of-requires : tie.Need-word-of-requires
+word-of-requires c κs = search needs
+
+set-number-requires : tie.Need-set-number-requires
+set-number-requires c κs = search needs
+
+same-length : tie.Need-same-length
+same-length c = search needs
+
+returns : tie.Need-returns
+returns c =
+    let seen = c .before .before in
+    let worded = seen .before in
+    let based = worded .before .before in
+    tick-returns _ _ _ _ _ (based .before .before .before .pre) (based .entries-at .ensures) (worded .word-of .ensures) (seen .set-number .ensures)
+
+pub see-tick-spec : {M : Type 1} → statement M
+see-tick-spec =
+    tie.close
+    (tie.spec entries-at-requires word-of-requires set-number-requires same-length returns)

@@ -1,0 +1,200 @@
+-- What a work word does to one block: to its resident, if it has one, and to its bytes in the store.
+use Prim.Native.Nat.{ℕ, _+_, _≤_}
+use native.Mathlib.Omega.{arith}
+use mathlib.Core.Path.{_≡_, refl, sym, ap, _∙_}
+use mathlib.Core.Logic.{_≢_, _⊎_, inl, inr}
+use mathlib.Core.Bool.{Bool, true, false, _||_, not}
+use mathlib.Core.List.{List, _∷_, map}
+use mathlib.Core.Option.{Option, none, some, Option·map}
+use lib.ListN.{length}
+use lib.Dec.{T}
+use Rattle.basics.specs.AllLaws.{all-those}
+use Rattle.basics.specs.Basics.{All, if_then_else_, bit, without, blockAt}
+use Rattle.basics.specs.Lists.{those}
+use Rattle.basics.specs.TestLaws.{split, same-or-not}
+use Rattle.stack.specs.Counts.{exceeds}
+use Rattle.stack.specs.declared.Marks.{Marks}
+use Rattle.stack.specs.Recency.{askedMarks, cleared, Resident, Place, counts, position, halve, remarked, place, asked, settled, lookup, removed}
+use Rattle.stack.specs.Stack.{Plain, Work, read, write, purge, flush, tick, invalid, leaving, saved, savedAll, present}
+use Rattle.stack.specs.Stack.{access, purging, flushing, step, plainStep}
+use Rattle.stack.specs.StackLaws.{bytesFor}
+use Rattle.stack.specs.Batch.{isRead, isWrite}
+use Rattle.stack.specs.PlaceLaws.{Placed, hits, enters, replaces, placed, all-found}
+use Rattle.stack.specs.BlockLaws.{Absent, AtPlace, place-blocks, Differ-at, lookup-none}
+use Rattle.stack.specs.MarkLaws.{WritesOut, flush-out, tick-out, chosen-modified, spared-unmodified, tick-seen}
+use Rattle.stack.specs.KeepLaws.{Kept}
+use Rattle.stack.specs.LookupLaws.{lookup-first, lookup-past, lookup-absent, lookup-without, lookup-same, lookup-at}
+use Rattle.stack.specs.SavedLaws.{Sized, saved-other, saved-same, saved-unmodified, savedAll-other, those-at, those-away}
+use Rattle.stack.specs.Ticks.{isTick}
+
+-- a resident of the plain stack, which holds its bytes
+abbrev pub Holder : Type 0
+Holder = Resident (List ℕ)
+
+abbrev pub itself : List ℕ → List ℕ
+itself bytes = bytes
+
+abbrev pub Swept : Work → Type 0
+Swept w = (w ≡ flush) ⊎ (w ≡ tick)
+
+-- By its bytes in the store, and its resident, before and after the word. An unmodified one that enters has the store's bytes; one that
+-- stays is unmodified only if it was, with the same bytes, and is left modified by a tick only if it had seen none.
+pub data Fate (w : Work) (before after : List ℕ) : Option Holder → Option Holder → Type 0 where
+  away : after ≡ before → Fate w before after none none
+  entered : (y : Holder) → after ≡ before → isTick w ≡ 0 → (T (not (y .marks .modified)) → y .held ≡ after) → Fate w before after none (some y)
+  left : (x : Holder) → (after ≡ before) ⊎ (after ≡ x .held) → Fate w before after (some x) none
+  stayed : (x y : Holder) → after ≡ before → (T (not (y .marks .modified)) → T (not (x .marks .modified)) × (y .held ≡ x .held))
+      → (T (y .marks .modified) → bit (x .marks .seen) + isTick w ≤ bit (y .marks .seen)) → Fate w before after (some x) (some y)
+  out : (x : Holder) → Swept w → T (x .marks .modified) → after ≡ x .held → Fate w before after (some x) (some (remarked cleared x))
+
+-- of block b, from one plain stack to another, B bytes a block
+abbrev pub FateOf : ℕ → ℕ → Work → Plain → Plain → Type 0
+FateOf B b w k now = Fate w (blockAt B b (k .store)) (blockAt B b (now .store)) (lookup b (k .residents)) (lookup b (now .residents))
+
+module _ {w : Work} {before after : List ℕ} where
+  -- neither a tick nor a word that touches the block
+  untouched : (o : Option Holder) → isTick w ≡ 0 → after ≡ before → Fate w before after o o
+  untouched none z e = away e
+  untouched (some x) z e = stayed x x e (λ t. (t, refl)) (λ t. omega (arith, z))
+
+  leaves : (o : Option Holder) → after ≡ before → Fate w before after o none
+  leaves none e = away e
+  leaves (some x) e = left x (inl e)
+
+  -- once counts were halved
+  halved : (Swept w → ⊥) → {o o′ : Option Holder} → Fate w before after o o′ → Fate w before after o (Option·map halve o′)
+  unfolding halve
+  halved unswept (away e) = away e
+  halved unswept (entered y e z own) = entered (halve y) e z own
+  halved unswept (left x e) = left x e
+  halved unswept (stayed x y e same rises) = stayed x (halve y) e same rises
+  halved unswept (out x swept m e) = absurd (unswept swept)
+
+  -- of the block of the first resident, and of another block
+  module _ {o : Option Holder} (b : ℕ) (y : Holder) (l : List Holder) where
+    first-fate : y .block ≡ b → Fate w before after o (some y) → Fate w before after o (lookup b (y ∷ l))
+    first-fate h fate = rw (lookup-first b y l h) fate
+
+    past-fate : y .block ≢ b → Fate w before after o (lookup b l) → Fate w before after o (lookup b (y ∷ l))
+    past-fate h fate = rw (lookup-past b y l h) fate
+
+swept-no-access : (w : Work) → Swept w → isRead w + isWrite w ≡ 0
+swept-no-access w (inl e) = ap (λ v. isRead v + isWrite v) e
+swept-no-access w (inr e) = ap (λ v. isRead v + isWrite v) e
+
+module _ (k : Plain) (kept : Kept k) (sizes : All (Sized itself (k .settings .b) (length (k .store))) (k .residents)) (b : ℕ) where
+  abbrev B : ℕ
+  B = k .settings .b
+
+  abbrev n : ℕ
+  n = length (k .store)
+
+  abbrev l : List Holder
+  l = k .residents
+
+  -- ---- a read or a write
+
+  module _ (w : Work) (z : isTick w ≡ 0) (unswept : Swept w → ⊥) (c : ℕ) (written : Bool) (incoming : List ℕ) where
+    abbrev storeAt : Place (List ℕ) → List ℕ
+    storeAt q = savedAll itself B (leaving q) (k .store)
+
+    abbrev bytesAt : Place (List ℕ) → List ℕ
+    bytesAt q = if written then incoming else present itself B c (storeAt q) q
+
+    -- unmodified after it only if unmodified before it, and not written
+    unwritten : (m : Bool) (bytes : List ℕ) → T (not (m || written)) → T (not m) × ((if written then incoming else bytes) ≡ bytes)
+    unwritten m bytes = go m written
+      where
+        go : (m v : Bool) → T (not (m || v)) → T (not m) × ((if v then incoming else bytes) ≡ bytes)
+        go true v t = absurd t
+        go false true t = absurd t
+        go false false t = (tt, refl)
+
+    asked-fate : (q : Place (List ℕ)) → Placed (k .settings) l q → AtPlace c q
+        → Fate w (blockAt B b (k .store)) (blockAt B b (storeAt q)) (lookup b l) (lookup b (asked c written (bytesAt q) q))
+    unfolding asked leaving present savedAll
+    asked-fate q (hits p x m e ok up) at =
+        let still : bit (x .marks .seen) + isTick w ≤ bit (askedMarks written (x .marks) .seen) = omega (arith, z) in
+        same-or-not (x .block) b
+        (λ h. first-fate b _ (without p l) h
+        (rw (lookup-at b l p x (kept .differ) e h) (stayed x _ refl (unwritten (x .marks .modified) (x .held)) (λ t. still))))
+        (λ h. past-fate b _ (without p l) h (rw (lookup-without b l p x e h) (untouched (lookup b l) z refl)))
+    asked-fate q (enters g) at = same-or-not c b
+        (λ h. first-fate b _ l h
+        (rw (lookup-absent b l (rw h at (at .0))) (entered _ refl z (λ t. unwritten false (blockAt B c (k .store)) t .1 ∙ rw h))))
+        (λ h. past-fate b _ l h (untouched (lookup b l) z refl))
+    asked-fate q (replaces v x e full chains) at =
+        let size : Sized itself B n x = all-found (Sized itself B n) l v x sizes e in
+        let other = saved-other itself B n x (k .store) size refl b in
+        same-or-not c b
+        (λ h. let ne : x .block ≢ b = rw h at (at .2) in
+        first-fate b _ (without v l) h
+        (rw (sym (lookup-without b l v x e ne) ∙ lookup-absent b (without v l) (rw h at (at .0)))
+        (entered _ (other ne) z (λ t. unwritten false (blockAt B c (saved itself B x (k .store))) t .1 ∙ rw h))))
+        (λ h. past-fate b _ (without v l) h
+        (same-or-not (x .block) b
+        (λ g. rw (lookup-at b l v x (kept .differ) e g, lookup-absent b (without v l) (rw g at (Differ-at l v x (kept .differ) e)))
+        (left x (split (x .marks .modified)
+        (λ m. inr (saved-same itself B n x (k .store) size refl b g m))
+        (λ m. inl (ap (blockAt B b) (saved-unmodified itself B n x (k .store) size refl m))))))
+        (λ g. rw (lookup-without b l v x e g) (untouched (lookup b l) z (other g)))))
+
+    access-fate : FateOf B b w k (access itself (λ q bytes. bytes) k c written incoming .after)
+    unfolding access settled halve
+    access-fate =
+        let s = k .settings in
+        let q = place s c l in
+        let next : List Holder = asked c written (bytesFor itself k c written incoming) q in
+        settle next (exceeds s (counts next))
+        (asked-fate q (placed s l (kept .some-old) (kept .old-fits) (kept .few) (kept .legal) c) (place-blocks s c l (kept .differ)))
+      where
+        settle : {before after : List ℕ} {o : Option Holder} (next : List Holder) (t : Bool) → Fate w before after o (lookup b next)
+            → Fate w before after o (lookup b (if t then map halve next else next))
+        settle next true fate = rw (lookup-same b halve (λ x. refl) next) (halved unswept fate)
+        settle next false fate = fate
+
+  -- ---- a purge
+
+  purging-fate : (c : ℕ) (o : Option Holder) → lookup c l ≡ o → FateOf B b (purge c) k (purging itself (λ q bytes. bytes) k c o .after)
+  unfolding purging removed lookup
+  purging-fate c none e = untouched (lookup b l) refl refl
+  purging-fate c (some x) e =
+      let p = position c l in
+      same-or-not (x .block) b
+      (λ h. rw (lookup-absent b (without p l) (rw h at (Differ-at l p x (kept .differ) e))) (leaves (lookup b l) refl))
+      (λ h. rw (lookup-without b l p x e h) (untouched (lookup b l) refl refl))
+
+  -- ---- a flush or a tick
+
+  module _ {w : Work} {chosen : Marks → Bool} {change : Marks → Marks} (swept : Swept w) (writes : WritesOut chosen change)
+      (rises : (m : Marks) → T (not (chosen m)) → T (change m .modified) → bit (m .seen) + isTick w ≤ bit (change m .seen)) where
+    flushing-fate : FateOf B b w k (flushing itself (λ q bytes. bytes) k chosen change .after)
+    unfolding flushing
+    flushing-fate = rw (lookup-same b (remarked change) (λ x. refl) l) (go (lookup b l) refl)
+      where
+        f : Holder → Bool
+        f x = chosen (x .marks)
+
+        others : Absent b (those f l) → blockAt B b (savedAll itself B (those f l) (k .store)) ≡ blockAt B b (k .store)
+        others = savedAll-other itself B n b (those f l) (k .store) (all-those (Sized itself B n) f l sizes) refl
+
+        go : (o : Option Holder) → lookup b l ≡ o
+            → Fate w (blockAt B b (k .store)) (blockAt B b (savedAll itself B (those f l) (k .store))) o (Option·map (remarked change) o)
+        go none e = away (others (all-those (λ x. x .block ≢ b) f l (lookup-none b l e)))
+        go (some x) e = split (f x)
+            (λ t. let m = chosen-modified writes (x .marks) t in
+            rw (writes .clears (x .marks) t) (out x swept m (those-at itself B n f b l (k .store) x sizes refl (kept .differ) e t m)))
+            (λ t. stayed x (remarked change x) (others (those-away itself B n f b l x (kept .differ) e t))
+            (λ u. (spared-unmodified writes (x .marks) t u, refl))
+            (rises (x .marks) t))
+
+  -- ---- every word
+
+  pub step-fate : (w : Work) (incoming : List ℕ) → FateOf B b w k (plainStep k w incoming .after)
+  unfolding plainStep step
+  step-fate (read c) incoming = access-fate (read c) refl (λ e. omega (arith, swept-no-access (read c) e)) c false incoming
+  step-fate (write c) incoming = access-fate (write c) refl (λ e. omega (arith, swept-no-access (write c) e)) c true incoming
+  step-fate (purge c) incoming = purging-fate c (lookup c l) refl
+  step-fate flush incoming = flushing-fate (inl refl) flush-out (λ m t u. absurd u)
+  step-fate tick incoming = flushing-fate (inr refl) tick-out tick-seen
+  step-fate invalid incoming = untouched (lookup b l) refl refl
