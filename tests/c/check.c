@@ -53,6 +53,9 @@ static bool chains_end(const struct check *c, const uint32_t *last) {
     return true;
 }
 
+/* A number, whose kind was tested: modified + 2 * seen is 0 alone of the even ones, 1 and 3 of the odd ones. */
+static bool wrong_marks(uint32_t word) { return word > ((uint32_t)NUMBER << 28) + 3 * (word & 1); }
+
 static bool stack(const struct check *c) {
     const uint32_t *d = c->dir;
     uint32_t last[MAX_CHAIN + 1] = {0};
@@ -64,11 +67,11 @@ static bool stack(const struct check *c) {
         const uint32_t *x = entry(c, e);
         uint32_t section = p < c->new ? 0 : p < c->first_old ? 1 : 2;
         if (at(x, TO_HEAD) != before || at(x, BLOCK) >= c->m || outside(at(x, COUNT), 65535)) return false;
-        if (at(x, SECTION) != section || at(x, MODIFIED) > 1 || !chained(c, e, x, last)) return false;
+        if (at(x, SECTION) != section || wrong_marks(x[MODIFIED]) || !chained(c, e, x, last)) return false;
         if (p == c->new) at_new = e;
         if (p == c->first_old) at_old = e;
         sum += at(x, COUNT);
-        modified += at(x, MODIFIED);
+        modified += x[MODIFIED] & 1;
         before = e;
         e = at(x, TO_TAIL);
     }

@@ -16,9 +16,9 @@ use std::collections::BTreeMap;
 struct Corners(BTreeMap<&'static str, u64>);
 
 impl Corners {
-    const NAMES: [&'static str; 13] = [
+    const NAMES: [&'static str; 15] = [
         "N 1", "Nnew 0", "N - Nold 0", "no middle section", "Cmax 1", "Cmax 64", "Amax 1", "B 1", "B above 1", "M 1",
-        "M below N", "full at the end", "sum at Amax x N",
+        "M below N", "full at the end", "sum at Amax x N", "seen at the end", "unseen at the end",
     ];
     fn count(&mut self, s: Settings, beside: &Beside) {
         let residents = &beside.stack.residents;
@@ -37,6 +37,8 @@ impl Corners {
             s.m < s.n,
             residents.len() as u32 == s.n,
             sum == sum_limit(s),
+            residents.iter().any(|resident| resident.marks.seen),
+            residents.iter().any(|resident| resident.marks.modified && !resident.marks.seen),
         ];
         for (name, _) in Self::NAMES.into_iter().zip(reached).filter(|corner| corner.1) {
             *self.0.entry(name).or_default() += 1;
@@ -59,6 +61,7 @@ fn print(histories: usize, seen: &Seen) {
         seen.written_out,
         seen.most_chains
     );
+    println!("  {:?}", seen.ticks);
 }
 
 #[test]
@@ -81,6 +84,7 @@ fn fresh_then_batches() {
     assert!((0..=10).chain([12]).all(|number| seen.numbers[number] > 100));
     assert_eq!(seen.longer_looks, histories as u64);
     assert!(seen.answers[1..].iter().all(|&times| times > 5_000) && seen.halved > 5_000 && seen.written_out > 5_000);
+    assert!(seen.ticks.all_above(2_000));
     assert!(seen.most_chains > 10);
 }
 
@@ -102,6 +106,7 @@ fn batches_from_built_directories() {
     assert!(seen.numbers.iter().all(|&times| times > 100));
     assert_eq!(seen.longer_looks, histories as u64);
     assert!(seen.answers[1..].iter().all(|&times| times > 3_000) && seen.halved > 3_000 && seen.written_out > 3_000);
+    assert!(seen.ticks.all_above(1_000));
     assert_eq!(seen.most_chains, MAX_CMAX);
 }
 
@@ -129,6 +134,7 @@ fn larger_caches() {
         println!("N {low} to {high}:");
         print(times, &seen);
         assert!(seen.numbers[0] > 10 && seen.answers[1..4].iter().all(|&times| times > 100), "N {low} to {high}");
+        assert!(seen.ticks.wrote_out > 0 && seen.ticks.did_both > 0, "N {low} to {high}");
     }
 }
 
@@ -165,7 +171,8 @@ fn crowded_buckets() {
         let mut beside = histories::fresh(&mut rng, LIBRARY, s);
         for _ in 0..10 {
             let kinds = [work::READ, work::READ, work::WRITE, work::PURGE];
-            let words = (0..60).map(|_| word(rng.pick(&kinds), rng.pick(&blocks))).collect();
+            let mut words: Vec<u32> = (0..60).map(|_| word(rng.pick(&kinds), rng.pick(&blocks))).collect();
+            words.insert(rng.below(60) as usize, word(work::TICK, 0));
             let call = histories::call_of(&mut rng, &beside, words);
             assert_eq!(beside.call(&call), 0);
         }
@@ -173,7 +180,7 @@ fn crowded_buckets() {
         seen.add(&beside.seen);
     }
     print(histories, &seen);
-    assert!(seen.answers[1..6].iter().all(|&times| times > 500));
+    assert!(seen.answers[1..].iter().all(|&times| times > 500) && seen.ticks.wrote_out > 100);
 }
 
 /// Reads + writes that leave room for exactly `room` words.
@@ -209,11 +216,12 @@ fn totals_on_and_beside_the_limit_of_11() {
             let mut beside = near_the_limit(&mut rng, s, room as u64, case % 3);
             let call = histories::call_of(&mut rng, &beside, work.clone());
             assert_eq!(beside.call(&call), expected, "{length} words, room for {room}");
-            // purges and flushes use up no room: only reads and writes count in the totals
+            // purges, flushes and ticks use up no room: only reads and writes count in the totals
             let left = MOST_TOTAL - beside.stack.reads - beside.stack.writes;
             carried_out_on_the_limit += u32::from(expected == 0 && left == 0);
             for (length, number) in [(left, 0), (left + 1, 11)] {
-                let call = histories::call_of(&mut rng, &beside, vec![word(work::PURGE, 0); length as usize]);
+                let idle = word(rng.pick(&[work::PURGE, work::FLUSH, work::TICK]), 0);
+                let call = histories::call_of(&mut rng, &beside, vec![idle; length as usize]);
                 assert_eq!(beside.call(&call), number);
             }
             beside.look_at_every_block();
@@ -269,8 +277,9 @@ fn high_counts() {
         let mut beside = histories::built_of(&mut rng, LIBRARY, &plan);
         let held = |beside: &Beside| beside.stack.residents.iter().any(|resident| resident.count == MAX_COUNT);
         let before = held(&beside);
-        let hits = plan.residents.iter().map(|resident| word(work::READ, resident.block)).collect();
-        let call = histories::call_of(&mut rng, &beside, hits);
+        let mut words: Vec<u32> = plan.residents.iter().map(|held| word(work::READ, held.block)).collect();
+        words.push(word(work::TICK, 0));
+        let call = histories::call_of(&mut rng, &beside, words);
         assert_eq!(beside.call(&call), 0);
         at_most += u32::from(before && held(&beside));
         beside.look_at_every_block();

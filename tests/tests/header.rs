@@ -291,7 +291,7 @@ fn words_that_do_not_fit_are_refused() {
     let mut accepted = 0;
     for (&(kind, value), line) in pairs.iter().zip(&said) {
         let [word, number] = numbers(line)[..] else { panic!("{line}") };
-        let meant = (1..=3).contains(&kind) && value < M || kind == 4 && value == 0;
+        let meant = (1..=3).contains(&kind) && value < M || [4, 5].contains(&kind) && value == 0;
         assert_eq!(number, if meant { 0 } else { 9 }, "kind {kind}, value {value}, word {word:#x}");
         let exact = kind < 16 && value < 1 << 28;
         assert!(!exact || u64::from(word) == u64::from(kind) << 28 | value, "kind {kind}, value {value}");

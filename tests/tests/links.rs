@@ -1,4 +1,5 @@
-//! The link bound: one read, write or purge without halving changes few link words, from every sound directory.
+//! The link bound: a batch of one word, whatever its kind, changes few link words if it does not halve, from every
+//! sound directory. A flush and a tick change none.
 use cache_tests::reference::beside::Beside;
 use cache_tests::reference::directory::{kind, value, word, Map, LINK};
 use cache_tests::reference::rng::Rng;
@@ -8,14 +9,20 @@ use cache_tests::reference::{histories, samples};
 use cache_tests::{Settings, LIBRARY};
 
 const BOUND: usize = 20;
-const NAMES: [&str; 5] = ["hit", "entered", "replaced", "purged", "absent"];
+/// By the kind of the answer; a tick's answer has the kind of a flush's.
+const NAMES: [&str; 7] = ["hit", "entered", "replaced", "purged", "absent", "flushed", "ticked"];
+const TICKED: usize = 6;
+/// Those that change no link word.
+const NONE: std::ops::RangeInclusive<usize> = 4..=TICKED;
 
 /// The largest number of changed link words and how many batches, of each kind of answer.
 #[derive(Default)]
 struct Largest {
-    changed: [usize; 5],
-    batches: [u64; 5],
+    changed: [usize; NAMES.len()],
+    batches: [u64; NAMES.len()],
     halved: u64,
+    /// Flushes and ticks that wrote out.
+    wrote_out: [u64; 2],
 }
 
 impl Largest {
@@ -41,9 +48,19 @@ impl Largest {
         let links = (0..map.length()).filter(|&address| map.kind_at(address) == LINK);
         let changed = links.filter(|&address| value(before[address]) != value(beside.dir[address])).count();
         assert!(changed <= BOUND, "{changed} link words changed by {w:#x}, answer {answered:#x}, {s:?}");
-        let i = kind(answered) as usize - 1;
+        let i = if kind(w) == work::TICK { TICKED } else { kind(answered) as usize - 1 };
         self.changed[i] = self.changed[i].max(changed);
         self.batches[i] += 1;
+        if kind(answered) == answer::FLUSHED {
+            self.wrote_out[usize::from(i == TICKED)] += u64::from(value(answered) > 0);
+        }
+    }
+
+    /// An absent block, a flush and a tick change none; the others change the stack's ends at least.
+    fn none_where_order_stays(&self) {
+        assert_eq!(self.changed[NONE], [0; 3], "{NAMES:?}");
+        assert!(self.changed[..4].iter().all(|&changed| changed >= 5));
+        assert!(self.wrote_out.iter().all(|&times| times > 20), "{:?}", self.wrote_out);
     }
 }
 
@@ -82,13 +99,14 @@ fn every_position_of_small_directories() {
                 largest.one(&mut rng, &mut again(&beside), word(k, block));
             }
         }
+        for k in [work::FLUSH, work::TICK] {
+            largest.one(&mut rng, &mut again(&beside), word(k, 0));
+        }
     }
     println!("{directories} directories");
     largest.print("every position");
     assert!(largest.batches.iter().all(|&batches| batches > 1_000));
-    // an absent block changes nothing; the others change the stack's ends at least
-    assert_eq!(largest.changed[4], 0);
-    assert!(largest.changed[..4].iter().all(|&changed| changed >= 5));
+    largest.none_where_order_stays();
 }
 
 #[test]
@@ -100,15 +118,15 @@ fn larger_directories() {
             let mut s = histories::settings(&mut rng, n);
             (s.b, s.m) = (1, 2 * n);
             let beside = start(&mut rng, s);
-            for w in histories::work_words(&mut rng, s, words) {
-                if kind(w) != work::FLUSH {
-                    largest.one(&mut rng, &mut again(&beside), w);
-                }
+            let both = [word(work::FLUSH, 0), word(work::TICK, 0)];
+            for w in histories::work_words(&mut rng, s, words).into_iter().chain(both) {
+                largest.one(&mut rng, &mut again(&beside), w);
             }
         }
     }
     largest.print("N 100, 700 and 4,096");
     assert!(largest.batches[..3].iter().all(|&batches| batches > 20));
+    largest.none_where_order_stays();
 }
 
 /// Along lists from fresh, word after word.
@@ -123,12 +141,11 @@ fn along_histories() {
         s.b = 1;
         let mut beside = histories::fresh(&mut rng, LIBRARY, s);
         for w in histories::work_words(&mut rng, s, 120) {
-            if kind(w) != work::FLUSH {
-                largest.one(&mut rng, &mut beside, w);
-            }
+            largest.one(&mut rng, &mut beside, w);
         }
     }
     println!("{histories} histories");
     largest.print("along histories");
     assert!(largest.batches.iter().all(|&batches| batches > 500) && largest.halved > 100);
+    largest.none_where_order_stays();
 }

@@ -137,6 +137,14 @@ fn the_occupancy_in_c() {
     after_the_sizes("the_occupancy_in_c", &[BATCH, &shown("c occupancy")].concat(), OCCUPANCY);
 }
 
+/// The first tick marks the written block, the second writes it out.
+#[test]
+fn ticks_in_c() {
+    let first = shown("c ticks");
+    let again = &first[first.find("number = ").expect("a call")..];
+    after_the_sizes("ticks_in_c", &[BATCH, &first, again].concat(), "0 written out\n1 written out\n");
+}
+
 #[test]
 fn saving_in_c() {
     let folder = folder("saving_in_c");
@@ -192,6 +200,10 @@ fn the_rust_program() {
 #[test]
 fn the_controller() {
     assert_eq!(example("controller"), shown("text controller"));
+}
+#[test]
+fn the_timeline_of_ticks() {
+    assert_eq!(example("ticks"), shown("text ticks"));
 }
 #[test]
 fn the_occupancy_of_a_day() {

@@ -35,9 +35,10 @@ fn check(rng: &mut Rng, dir: &[u32], expected: (u32, Table)) {
     }
 }
 
-/// The columns add up to word 7, and to the modified words that are 1 over all entries.
+/// The columns add up to word 7, and to the modified words that are 1 or 3 over all entries.
 fn check_sums(dir: &[u32], s: Settings, table: &Table) {
-    let modified = (1..=s.n).filter(|&e| dir[Map::of(s).entry(e, entry::MODIFIED)] == number(1)).count();
+    let marked = |e: u32| [number(1), number(3)].contains(&dir[Map::of(s).entry(e, entry::MODIFIED)]);
+    let modified = (1..=s.n).filter(|&e| marked(e)).count();
     assert_eq!(sums(table), (value(dir[header::RESIDENTS]), modified as u32), "{s:?}");
 }
 
@@ -99,7 +100,7 @@ fn plan_of_counts(rng: &mut Rng, n: u32, counts: &[u32]) -> Plan {
 }
 
 fn of_plan(plan: &Plan) -> Table {
-    of_residents(plan.residents.iter().map(|resident| (resident.count, resident.modified == 1)))
+    of_residents(plan.residents.iter().map(|resident| (resident.count, resident.is_modified())))
 }
 
 /// Where the classes begin and end.
@@ -201,11 +202,12 @@ fn damaged_directories() {
     tally.print("occupancy of damaged directories");
     let (sound, unsound) = tally.total();
     assert!(sound > 5_000 && unsound > 50_000, "{sound} sound, {unsound} unsound");
-    // a mark that is set or cleared moves one figure, where the totals leave room
+    // a modified mark that is set or cleared moves one figure, where the totals leave room; a seen mark moves none
     assert!(tally.of(&regions::Region::Resident(entry::MODIFIED).name()).0 > 100);
 }
 
-/// Every bit of every word of small directories, one at a time: flips of a modified mark move one figure.
+/// Every bit of every word of small directories, one at a time: a flip of a modified mark moves one figure, a flip of
+/// a seen mark none.
 #[test]
 fn one_bit_wrong() {
     let mut rng = Rng::announced("one_bit_wrong", 147);

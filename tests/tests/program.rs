@@ -117,15 +117,18 @@ fn inputs_about_4_100_bytes() {
 fn refused_words() {
     let mut rng = Rng::announced("refused_words", 112);
     let (mut inputs, mut refused) = (0, 0);
-    let mut wrong: Vec<u32> = [0, 5, 6, 7, 8, 9, 10, 11, 12, 13, 14, 15].map(|k| word(k, 0)).to_vec();
+    let mut wrong: Vec<u32> = [0, 6, 7, 8, 9, 10, 11, 12, 13, 14, 15].map(|k| word(k, 0)).to_vec();
     wrong.extend([
         word(1, 64),
         word(2, 64),
         word(3, 64),
         word(4, 1),
+        word(5, 1),
+        word(5, 63),
         word(1, (1 << 28) - 1),
         word(2, 1 << 20),
         word(4, 1 << 27),
+        word(5, 1 << 27),
     ]);
     for w in wrong {
         let length = rng.below(20) as usize;
@@ -148,7 +151,7 @@ fn refused_words() {
 #[test]
 fn random_words() {
     let mut rng = Rng::announced("random_words", 113);
-    let mut kinds = [0u32; 7];
+    let (mut kinds, mut ticks) = ([0u32; 7], [0u32; 2]);
     let inputs = 300;
     for input in 0..inputs {
         let length = if input % 10 == 0 { 1_024 } else { rng.within(0, 200) };
@@ -156,12 +159,15 @@ fn random_words() {
         let odd = rng.below(4) as usize;
         let input = [bytes(&words), histories::bytes(&mut rng, odd)].concat();
         let lines = check(&input);
-        for line in lines.lines().filter(|line| !line.starts_with("total")) {
+        for (line, &w) in lines.lines().zip(&words) {
             kinds[line[..1].parse::<usize>().unwrap()] += 1;
+            if kind(w) == work::TICK {
+                ticks[usize::from(line != "6 0")] += 1;
+            }
         }
     }
-    println!("{inputs} inputs, answers 1 to 6: {:?}", &kinds[1..]);
-    assert!(kinds[1..].iter().all(|&times| times > 500));
+    println!("{inputs} inputs, answers 1 to 6: {:?}; {ticks:?} ticks wrote out none, and some", &kinds[1..]);
+    assert!(kinds[1..].iter().all(|&times| times > 500) && ticks.iter().all(|&times| times > 200));
 }
 
 /// Standard input may come in pieces that end amid a word.
@@ -180,23 +186,36 @@ fn input_in_pieces() {
     println!("{inputs} inputs in three pieces");
 }
 
-/// The samples that ship with the repository, and the lines stored beside one of them.
+fn sample(name: &str) -> Vec<u8> {
+    let folder = PathBuf::from(env!("CARGO_MANIFEST_DIR")).join("../samples");
+    std::fs::read(folder.join(name)).unwrap()
+}
+
+/// The samples that ship with the repository, and the lines stored beside two of them.
 #[test]
 fn samples_of_the_repository() {
-    let sample = |name: &str| {
-        let folder = PathBuf::from(env!("CARGO_MANIFEST_DIR")).join("../samples");
-        std::fs::read(folder.join(name)).unwrap()
-    };
     assert_eq!(check(&sample("example_a.words")), LINES_OF_A);
     let lines = check(&sample("day.words"));
     assert_eq!(lines.as_bytes(), &sample("day.lines")[..]);
     for kind in 1..=6 {
         assert!(lines.lines().any(|line| line.starts_with(&format!("{kind} "))), "no answer of kind {kind}");
     }
+    assert_eq!(check(&sample("ticks.words")).as_bytes(), &sample("ticks.lines")[..]);
 }
 
 /// The plain stack's lines for example a are the scope's.
 #[test]
 fn expected_lines_of_a() {
     assert_eq!(expected(&reads(&EXAMPLE_A)), LINES_OF_A);
+}
+
+/// Two of its seven ticks write out, the second of them two blocks, one of which had left with a seen mark and entered
+/// again.
+#[test]
+fn expected_lines_of_ticks() {
+    let (words, lines) = (sample("ticks.words"), expected(&sample("ticks.words")));
+    assert_eq!(lines.as_bytes(), &sample("ticks.lines")[..]);
+    let answered = words.chunks_exact(4).zip(lines.lines());
+    let ticks: Vec<&str> = answered.filter(|(word, _)| word[3] >> 4 == 5).map(|(_, line)| line).collect();
+    assert_eq!(ticks, ["6 0", "6 1", "6 0", "6 0", "6 2", "6 0", "6 0"]);
 }

@@ -34,6 +34,8 @@ fn corners(plan: &Plan) -> Vec<&'static str> {
         (plan.sum() == sum_limit(s), "sum at Amax x N"),
         (plan.totals.writes == plan.totals.outs + plan.modified(), "outs + modified = writes"),
         (plan.totals.ins == plan.totals.reads, "ins = reads"),
+        (plan.residents.iter().any(|resident| resident.marks == 1), "modified and unseen"),
+        (plan.residents.iter().any(|resident| resident.marks == 3), "modified and seen"),
         (crowded, "three synonyms"),
         (long_chain, "three in a chain"),
     ];
@@ -60,7 +62,8 @@ fn sound_directories_are_accepted() {
     let names = [
         "no residents", "part full", "full", "Nnew 0", "N - Nold 0", "no middle section", "Cmax 1", "Cmax 64",
         "Amax 1,000", "B 4,096", "M 262,144", "M below N", "count 65,535", "count above Cmax", "sum at Amax x N",
-        "outs + modified = writes", "ins = reads", "three synonyms", "three in a chain",
+        "outs + modified = writes", "ins = reads", "modified and unseen", "modified and seen", "three synonyms",
+        "three in a chain",
     ];
     for name in names {
         assert!(reached.of(name).0 >= 20, "{name} was reached {} times", reached.of(name).0);

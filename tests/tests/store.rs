@@ -71,14 +71,15 @@ fn lengths_about_m_times_b() {
 type Spoil = fn(&mut Call);
 
 /// One thing wrong: its number over a store of M × B bytes, and over a longer one.
-const OTHERS: [(&str, Spoil, u32, u32); 10] = [
+const OTHERS: [(&str, Spoil, u32, u32); 11] = [
     ("data too short", |call| call.lent.data -= 1, 7, 7),
     ("no data", |call| call.lent.data = 0, 7, 7),
     ("1,025 words", |call| call.work.resize(work::MOST_WORDS + 1, word(work::PURGE, 0)), 8, 12),
     ("a kind of 0", |call| call.work[1] = word(0, 0), 9, 12),
-    ("a kind of 5", |call| call.work[1] = word(5, 0), 9, 12),
+    ("a kind of 6", |call| call.work[1] = word(6, 0), 9, 12),
     ("a block of M", |call| call.work[1] = word(work::READ, BELT.m), 9, 12),
     ("a flush with a value", |call| call.work[2] = word(work::FLUSH, 1), 9, 12),
+    ("a tick with a value", |call| call.work[2] = word(work::TICK, 1), 9, 12),
     ("answers too short", |call| call.answers.truncate(2), 10, 12),
     ("incoming too short", |call| call.incoming.truncate(7), 10, 12),
     ("outgoing too short", |call| call.outgoing.truncate(7), 10, 12),

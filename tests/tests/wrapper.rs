@@ -217,6 +217,7 @@ fn work_of(w: u32) -> Work {
         work::WRITE => Work::Write(value(w)),
         work::PURGE => Work::Purge(value(w)),
         work::FLUSH => Work::Flush,
+        work::TICK => Work::Tick,
         other => panic!("work of kind {other}"),
     }
 }

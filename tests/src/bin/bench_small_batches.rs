@@ -1,7 +1,8 @@
 //! What one batch costs, by its length: microseconds of the batch, nanoseconds of a word, the share of the check that
-//! every batch begins with, which is what a batch without words takes. Then an occupancy by count class beside a check.
+//! every batch begins with, which is what a batch without words takes. Then an occupancy by count class beside a check,
+//! and a flush and ticks over residents that are all modified.
 //! Run with `cargo run --release --bin bench_small_batches`.
-use cache_tests::reference::directory::{header, value, word};
+use cache_tests::reference::directory::{entry, header, settings_of, value, word, Map};
 use cache_tests::reference::rng::Rng;
 use cache_tests::reference::settings::{directory_length, named, Profile};
 use cache_tests::reference::stack::work;
@@ -101,6 +102,32 @@ fn occupancy_row(dir: &[u32], n: u32) {
     println!("{n:>6} {of_table:>14.2} {of_check:>10.2} {:>8.2}", of_table / of_check);
 }
 
+/// Microseconds of a batch of one word over this directory, which every round begins with.
+fn of_word(cache: &mut Cache, start: &[u32], w: u32, written: u32) -> f64 {
+    let mut round = |_| {
+        cache.dir.copy_from_slice(start);
+        let time = cache.round([&[w][..]].into_iter());
+        assert_eq!(value(cache.answers[0]), written);
+        time
+    };
+    (0..ROUNDS).map(&mut round).fold(f64::MAX, f64::min)
+}
+
+/// A flush, a tick that marks and a tick that writes out, each over residents that are all modified.
+fn tick_row(cache: &mut Cache, n: u32) {
+    let (flush, tick) = (word(work::FLUSH, 0), word(work::TICK, 0));
+    let map = Map::of(settings_of(&cache.dir));
+    let writes: Vec<u32> = (1..=n).map(|e| word(work::WRITE, value(cache.dir[map.entry(e, entry::BLOCK)]))).collect();
+    cache.round([&[flush][..]].into_iter());
+    cache.round(writes.chunks(LONGEST));
+    let modified = cache.dir.clone();
+    cache.round([&[tick][..]].into_iter());
+    let seen = cache.dir.clone();
+    let times = [(&modified, flush, n), (&modified, tick, 0), (&seen, tick, n)];
+    let [flush, marks, writes_out] = times.map(|(start, w, written)| of_word(cache, start, w, written));
+    println!("{n:>6} {flush:>10.2} {marks:>16.2} {writes_out:>20.2}");
+}
+
 fn main() {
     let mut rng = Rng::announced("bench_small_batches", 44);
     println!("UNIX settings, B = {B}, M = {STORE_FACTOR} N, a full cache, skewed blocks, a quarter writes;");
@@ -113,8 +140,10 @@ fn main() {
         for length in LENGTHS {
             row(&mut cache, n, &trace, length);
         }
-        full.push(cache.dir);
+        full.push(cache);
     }
     println!("{:>6} {:>14} {:>10} {:>8}", "N", "occupancy, us", "check, us", "ratio");
-    full.iter().zip(SIZES).for_each(|(dir, n)| occupancy_row(dir, n));
+    full.iter().zip(SIZES).for_each(|(cache, n)| occupancy_row(&cache.dir, n));
+    println!("{:>6} {:>10} {:>16} {:>20}", "N", "flush, us", "tick marks, us", "tick writes out, us");
+    full.iter_mut().zip(SIZES).for_each(|(cache, n)| tick_row(cache, n));
 }

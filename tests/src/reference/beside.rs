@@ -1,6 +1,7 @@
 //! A cache under test beside the plain stack: the same calls to both, and everything compared after each.
 use super::builder::Plan;
 use super::directory::{entry, header, kind, settings_of, value, Map, VALUE_BITS};
+use super::marks::Marks;
 use super::occupancy::{self, Table};
 use super::settings::directory_length;
 use super::stack::{self, answer, work, Lent, PlainStack};
@@ -45,9 +46,48 @@ pub struct Seen {
     pub written_out: u64,
     pub most_chains: u32,
     pub highest_victim: u32,
+    pub ticks: Ticks,
     pub looks: u64,
     /// Looks that were lent more than the store.
     pub longer_looks: u64,
+}
+
+/// What ticks did, each of them one of three.
+#[derive(Clone, Copy, Debug, Default, PartialEq, Eq)]
+pub struct Ticks {
+    pub wrote_out: u64,
+    pub only_marked: u64,
+    pub nothing: u64,
+    /// Of those that wrote out, the ones that marked others as well.
+    pub did_both: u64,
+}
+
+impl Ticks {
+    /// A tick answered 0 has written out none: all that is modified after it has its mark from it.
+    fn count(&mut self, after: &PlainStack, w: u32, answer: u32) {
+        if kind(w) != work::TICK {
+            return;
+        }
+        let modified = after.residents.iter().any(|resident| resident.marks.modified);
+        match (value(answer), modified) {
+            (0, false) => self.nothing += 1,
+            (0, true) => self.only_marked += 1,
+            _ => self.wrote_out += 1,
+        }
+        self.did_both += u64::from(value(answer) > 0 && modified);
+    }
+
+    fn add(&mut self, other: Ticks) {
+        self.wrote_out += other.wrote_out;
+        self.only_marked += other.only_marked;
+        self.nothing += other.nothing;
+        self.did_both += other.did_both;
+    }
+
+    /// Whether each of them was met so often.
+    pub fn all_above(&self, times: u64) -> bool {
+        [self.wrote_out, self.only_marked, self.nothing, self.did_both].iter().all(|&met| met > times)
+    }
 }
 
 impl Seen {
@@ -58,6 +98,7 @@ impl Seen {
         self.written_out += other.written_out;
         self.most_chains = self.most_chains.max(other.most_chains);
         self.highest_victim = self.highest_victim.max(other.highest_victim);
+        self.ticks.add(other.ticks);
         self.looks += other.looks;
         self.longer_looks += other.longer_looks;
     }
@@ -110,7 +151,7 @@ impl Beside {
         let held = |(p, &e): (usize, &u32)| stack::Resident {
             block: plan.residents[p].block,
             count: plan.residents[p].count,
-            modified: plan.residents[p].modified == 1,
+            marks: Marks::of_word(plan.residents[p].marks),
             bytes: data[(e as usize - 1) * b..e as usize * b].to_vec(),
         };
         let mut stack = PlainStack::new(plan.settings, store.clone());
@@ -133,7 +174,10 @@ impl Beside {
     /// The same batch to both; the number returned. Untouched parts are compared as well: buffers are compared whole.
     pub fn call(&mut self, call: &Call) -> u32 {
         let (mut answers, mut outgoing) = (call.answers.clone(), call.outgoing.clone());
-        let expected = self.stack.batch(call.lent, &call.work, &call.incoming, &mut answers, &mut outgoing);
+        let ticks = &mut self.seen.ticks;
+        let watch = |after: &PlainStack, w: u32, answer: u32| ticks.count(after, w, answer);
+        let expected =
+            self.stack.watched_batch(call.lent, &call.work, &call.incoming, &mut answers, &mut outgoing, watch);
         self.run(call, expected, &answers, &outgoing)
     }
 
@@ -265,7 +309,7 @@ pub fn residents(dir: &[u32], data: &[u8]) -> Vec<stack::Resident> {
         residents.push(stack::Resident {
             block: value(dir[map.entry(e, entry::BLOCK)]),
             count: value(dir[map.entry(e, entry::COUNT)]),
-            modified: value(dir[map.entry(e, entry::MODIFIED)]) == 1,
+            marks: Marks::of_word(value(dir[map.entry(e, entry::MODIFIED)])),
             bytes: data[(e as usize - 1) * b..e as usize * b].to_vec(),
         });
         e = value(dir[map.entry(e, entry::TOWARDS_TAIL)]);

@@ -12,7 +12,15 @@ use crate::Settings;
 pub struct Resident {
     pub block: u32,
     pub count: u32,
-    pub modified: u32,
+    /// The modified word, legal or not.
+    pub marks: u32,
+}
+
+impl Resident {
+    /// Also of a word that is not legal.
+    pub fn is_modified(&self) -> bool {
+        self.marks % 2 == 1
+    }
 }
 
 #[derive(Clone, Copy, Debug, Default, PartialEq, Eq)]
@@ -66,11 +74,8 @@ pub fn home_among(buckets: u64, block: u32) -> usize {
 impl Plan {
     /// The directory of a plain stack's state.
     pub fn of_stack(stack: &PlainStack, arrangement: Arrangement) -> Plan {
-        let resident = |held: &stack::Resident| Resident {
-            block: held.block,
-            count: held.count,
-            modified: u32::from(held.modified),
-        };
+        let resident =
+            |held: &stack::Resident| Resident { block: held.block, count: held.count, marks: held.marks.word() };
         Plan {
             settings: stack.settings,
             residents: stack.residents.iter().map(resident).collect(),
@@ -85,7 +90,7 @@ impl Plan {
         self.residents.iter().map(|resident| u64::from(resident.count)).sum()
     }
     pub fn modified(&self) -> u64 {
-        self.residents.iter().filter(|resident| resident.modified == 1).count() as u64
+        self.residents.iter().filter(|resident| resident.is_modified()).count() as u64
     }
     /// The entries of chain `count` in stack order.
     pub fn chain(&self, count: u32) -> Vec<u32> {
@@ -132,7 +137,7 @@ impl Plan {
             words[map.entry(e, entry::BLOCK)] = number(resident.block);
             words[map.entry(e, entry::COUNT)] = number(resident.count);
             words[map.entry(e, entry::SECTION)] = number(section(self.settings, position));
-            words[map.entry(e, entry::MODIFIED)] = number(resident.modified);
+            words[map.entry(e, entry::MODIFIED)] = number(resident.marks);
         }
         write_stack(words, map, &self.arrangement.entries[..self.residents.len()]);
     }
@@ -205,10 +210,10 @@ mod tests {
 
     #[test]
     fn three_residents_by_hand() {
-        let resident = |block, count, modified| Resident { block, count, modified };
+        let resident = |block, count, marks| Resident { block, count, marks };
         let plan = Plan {
             settings: BELT,
-            residents: vec![resident(9, 1, 0), resident(5, 2, 1), resident(7, 1, 0)],
+            residents: vec![resident(9, 1, 0), resident(5, 2, 1), resident(7, 1, 3)],
             totals: Totals { reads: 3, writes: 1 << 28, ins: 2, outs: 0 },
             arrangement: Arrangement { entries: vec![4, 1, 2], unused: vec![3], synonyms: vec![2, 0, 1] },
         };
@@ -220,7 +225,7 @@ mod tests {
         // chains 1, 2 and 3
         assert_eq!(words[header::LENGTH..header::LENGTH + 6], [4, 2, 1, 1, 0, 0].map(link));
         let entry_2 = plan.map().entry(2, 0);
-        assert_eq!(words[entry_2..entry_2 + 4], [7, 1, OLD, 0].map(number));
+        assert_eq!(words[entry_2..entry_2 + 4], [7, 1, OLD, 3].map(number));
         assert_eq!(words[entry_2 + 4..entry_2 + 8], [1, 0, 4, 0].map(link));
         assert!(judge::sound(&words));
     }

@@ -46,6 +46,7 @@ pub mod entry {
     pub const BLOCK: usize = 0;
     pub const COUNT: usize = 1;
     pub const SECTION: usize = 2;
+    /// The marks: modified + 2 × seen.
     pub const MODIFIED: usize = 3;
     pub const TOWARDS_HEAD: usize = 4;
     pub const TOWARDS_TAIL: usize = 5;
@@ -71,8 +72,8 @@ pub const LINK: u32 = 2;
 pub const VALUE_BITS: u32 = 28;
 pub const MAX_VALUE: u32 = (1 << VALUE_BITS) - 1;
 
-pub fn word(kind: u32, value: u32) -> u32 {
-    assert!(kind < 16 && value <= MAX_VALUE, "kind {kind} and value {value} do not fit a word");
+pub const fn word(kind: u32, value: u32) -> u32 {
+    assert!(kind < 16 && value <= MAX_VALUE, "kind and value do not fit a word");
     kind << VALUE_BITS | value
 }
 pub fn number(value: u32) -> u32 {

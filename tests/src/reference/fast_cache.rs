@@ -14,6 +14,10 @@ mod links;
 #[cfg(test)]
 mod tests;
 
+/// The modified word is the sum of these.
+const MODIFIED: u32 = 1;
+const SEEN: u32 = 2;
+
 /// Runs a batch and returns 0, or changes nothing and returns 6 to 12.
 pub fn batch(
     dir: &mut [u32], data: &mut [u8], store: &mut [u8], work: &[u32], incoming: &[u8], answers: &mut [u32],
@@ -51,7 +55,8 @@ fn run<const LOOP: bool>(
             work::READ => cache.read(block, outgoing.next().unwrap()),
             work::WRITE => cache.write(block, incoming.next().unwrap()),
             work::PURGE => cache.purge(block),
-            _ => cache.flush(),
+            work::FLUSH => cache.flush(),
+            _ => cache.tick(),
         };
     }
     cache.put_totals();
@@ -97,7 +102,7 @@ fn refusal(dir: &[u32], s: Settings, work: &[u32], incoming: usize, answers: usi
         let value = w & MAX_VALUE;
         let well_formed = match w >> VALUE_BITS {
             work::READ | work::WRITE | work::PURGE => value < s.m,
-            work::FLUSH => value == 0,
+            work::FLUSH | work::TICK => value == 0,
             _ => false,
         };
         if !well_formed {
@@ -236,7 +241,8 @@ impl<'a, const LOOP: bool> Cache<'a, LOOP> {
         let e = self.at(header::HEAD);
         let place = self.bytes_of(e);
         copy::<LOOP>(bytes, &mut self.data[place]);
-        self.number_of(e, entry::MODIFIED, 1);
+        // a further write keeps the seen mark
+        self.words[self.map.entry(e, entry::MODIFIED)] |= MODIFIED;
         self.halved_after(answer)
     }
 
@@ -271,7 +277,7 @@ impl<'a, const LOOP: bool> Cache<'a, LOOP> {
         let (victim, chains) = self.victim();
         let block = self.of(victim, entry::BLOCK);
         let mut value = block + answer::CHAIN * chains;
-        if self.of(victim, entry::MODIFIED) == 1 {
+        if self.of(victim, entry::MODIFIED) != 0 {
             self.write_out(victim);
             value += answer::WRITTEN_OUT;
         }
@@ -295,7 +301,7 @@ impl<'a, const LOOP: bool> Cache<'a, LOOP> {
         let Some(e) = find(self.words, self.map, block) else {
             return answer::ABSENT << VALUE_BITS;
         };
-        let modified = self.of(e, entry::MODIFIED);
+        let modified = self.of(e, entry::MODIFIED) & MODIFIED;
         self.leave(e);
         self.recount(e, 0);
         self.unlist(e);
@@ -313,10 +319,28 @@ impl<'a, const LOOP: bool> Cache<'a, LOOP> {
         let mut written = 0;
         let mut e = self.at(header::HEAD);
         while e != 0 {
-            if self.of(e, entry::MODIFIED) == 1 {
+            if self.of(e, entry::MODIFIED) != 0 {
                 self.write_out(e);
                 self.number_of(e, entry::MODIFIED, 0);
                 written += 1;
+            }
+            e = self.of(e, entry::TOWARDS_TAIL);
+        }
+        answer::FLUSHED << VALUE_BITS | written
+    }
+
+    fn tick(&mut self) -> u32 {
+        let mut written = 0;
+        let mut e = self.at(header::HEAD);
+        while e != 0 {
+            match self.of(e, entry::MODIFIED) {
+                0 => {}
+                MODIFIED => self.number_of(e, entry::MODIFIED, MODIFIED + SEEN),
+                _ => {
+                    self.write_out(e);
+                    self.number_of(e, entry::MODIFIED, 0);
+                    written += 1;
+                }
             }
             e = self.of(e, entry::TOWARDS_TAIL);
         }

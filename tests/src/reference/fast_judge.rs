@@ -84,12 +84,13 @@ impl<'a> Check<'a> {
                 _ if position < first_old => MIDDLE,
                 _ => OLD,
             };
-            let count = resident[entry::COUNT];
+            let (count, marks) = (resident[entry::COUNT], resident[entry::MODIFIED]);
             if resident[entry::TOWARDS_HEAD] != before
                 || resident[entry::BLOCK] >= self.s.m
                 || !(1..=MAX_COUNT).contains(&count)
                 || resident[entry::SECTION] != section
-                || resident[entry::MODIFIED] > 1
+                // 0 alone of the even ones, 1 and 3 of the odd ones
+                || marks > 3 * (marks & 1)
                 || !self.chained(e, &resident, &mut chain_tails)
             {
                 return false;
@@ -101,7 +102,7 @@ impl<'a> Check<'a> {
                 at_first_old = e;
             }
             sum += u64::from(count);
-            modified += u64::from(resident[entry::MODIFIED]);
+            modified += u64::from(marks & 1);
             (before, e) = (e, resident[entry::TOWARDS_TAIL]);
         }
         e == 0

@@ -103,7 +103,7 @@ pub fn totals(rng: &mut Rng, modified: u64) -> Totals {
 
 /// Well-formed work words over few blocks, all blocks, or a hot set beside all.
 pub fn work_words(rng: &mut Rng, s: Settings, length: usize) -> Vec<u32> {
-    // the samples flush often
+    // the samples flush and tick often
     let manner = if s.n > 64 { rng.within(1, 2) } else { rng.within(0, 2) };
     if manner == 0 {
         return samples::work_words(rng, s, length);
@@ -113,7 +113,7 @@ pub fn work_words(rng: &mut Rng, s: Settings, length: usize) -> Vec<u32> {
         let block = if manner == 1 || rng.one_in(3) { rng.within(0, s.m - 1) } else { s.m - rng.within(1, hot) };
         match rng.below(16) {
             // rare in large caches, so that modified victims are met
-            _ if rng.one_in(u64::from(s.n.max(16))) => word(work::FLUSH, 0),
+            _ if rng.one_in(u64::from(s.n.max(16))) => word(rng.pick(&[work::FLUSH, work::TICK, work::TICK]), 0),
             0 => word(work::PURGE, block),
             1..=5 => word(work::WRITE, block),
             _ => word(work::READ, block),
@@ -153,8 +153,8 @@ pub fn spoil(rng: &mut Rng, beside: &Beside, call: &mut Call) {
         4 => {
             let high = rng.pick(&[s.m, s.m + 1, MAX_VALUE]);
             let wrong = match rng.below(4) {
-                0 => word(rng.pick(&[0, 5, 6, 7, 8, 15]), 0),
-                1 => word(work::FLUSH, rng.pick(&[1, MAX_VALUE])),
+                0 => word(rng.pick(&[0, 6, 7, 8, 15]), 0),
+                1 => word(rng.pick(&[work::FLUSH, work::TICK]), rng.pick(&[1, s.m - 1, MAX_VALUE]).max(1)),
                 _ => word(rng.within(1, 3), high),
             };
             let at = rng.below(call.work.len() as u64 + 1) as usize;

@@ -2,6 +2,7 @@
 //! It answers for any slice of any words and is quadratic.
 use super::directory::{entry, header, kind, settings_of, value, Map, MIDDLE, NEW, OLD, VALUE_BITS};
 use super::fnv;
+use super::marks::{self, Marks};
 use super::settings::{self, MAX_COUNT};
 use crate::Settings;
 
@@ -95,8 +96,8 @@ impl Judge<'_> {
         hold(blocks.iter().all(|&block| block < self.s.m))?;
         // counts are 1 to 65,535
         hold(stack.iter().all(|&e| (1..=MAX_COUNT).contains(&self.count(e))))?;
-        // modified (0 or 1)
-        hold(stack.iter().all(|&e| self.of(e, entry::MODIFIED) <= 1))
+        // modified + 2 × seen, where seen needs modified
+        hold(stack.iter().all(|&e| marks::LEGAL.contains(&self.of(e, entry::MODIFIED))))
     }
 
     fn sections(&self, stack: &[u32]) -> Option<()> {
@@ -155,7 +156,7 @@ impl Judge<'_> {
         let writes = self.total(header::WRITES_LOW, header::WRITES_HIGH);
         let ins = self.total(header::INS_LOW, header::INS_HIGH);
         let outs = self.total(header::OUTS_LOW, header::OUTS_HIGH);
-        let modified = stack.iter().filter(|&&e| self.of(e, entry::MODIFIED) == 1).count() as u64;
+        let modified = stack.iter().filter(|&&e| Marks::of_word(self.of(e, entry::MODIFIED)).modified).count() as u64;
         hold(ins <= reads && outs + modified <= writes)
     }
 }

@@ -10,6 +10,7 @@ pub mod fnv;
 pub mod histories;
 pub mod judge;
 pub mod lru_cache;
+pub mod marks;
 pub mod occupancy;
 pub mod rng;
 pub mod samples;

@@ -1,6 +1,7 @@
 //! The residents by count class: of the plain stack, and read off a directory's words.
 use super::directory::{entry, settings_of, value, Map};
 use super::fast_judge;
+use super::marks::Marks;
 use super::stack::PlainStack;
 
 pub const CLASSES: usize = 8;
@@ -17,7 +18,7 @@ pub fn class(count: u32) -> usize {
     ENDS.iter().filter(|&&end| end < count).count()
 }
 
-/// The table of residents, each with its count and its modified mark.
+/// The table of residents, each with its count and its modified mark; a seen mark makes no difference.
 pub fn of_residents(residents: impl Iterator<Item = (u32, bool)>) -> Table {
     let mut table = NONE;
     for (count, modified) in residents {
@@ -28,7 +29,7 @@ pub fn of_residents(residents: impl Iterator<Item = (u32, bool)>) -> Table {
 }
 
 pub fn of_stack(stack: &PlainStack) -> Table {
-    of_residents(stack.residents.iter().map(|resident| (resident.count, resident.modified)))
+    of_residents(stack.residents.iter().map(|resident| (resident.count, resident.marks.modified)))
 }
 
 /// The number and the table of any words. No link is followed: an entry is unused where its count is 0.
@@ -39,7 +40,7 @@ pub fn of_words(words: &[u32]) -> (u32, Table) {
     let s = settings_of(words);
     let at = |e: u32, word: usize| value(words[Map::of(s).entry(e, word)]);
     let used = (1..=s.n).filter(|&e| at(e, entry::COUNT) > 0);
-    (0, of_residents(used.map(|e| (at(e, entry::COUNT), at(e, entry::MODIFIED) == 1))))
+    (0, of_residents(used.map(|e| (at(e, entry::COUNT), Marks::of_word(at(e, entry::MODIFIED)).modified))))
 }
 
 /// The sums of both columns.

@@ -2,6 +2,7 @@
 use super::builder::{home, Arrangement, Plan, Resident, Totals};
 use super::crowding;
 use super::directory::word;
+use super::marks;
 use super::rng::Rng;
 use super::settings::{sum_limit, MAX_AMAX, MAX_B, MAX_CMAX, MAX_COUNT, MAX_M};
 use super::stack::work;
@@ -67,10 +68,10 @@ pub fn plan_of(rng: &mut Rng, s: Settings, r: u32) -> Plan {
 /// A sound directory with these different blocks, most recent first.
 pub fn plan_with(rng: &mut Rng, s: Settings, blocks: Vec<u32>) -> Plan {
     let r = blocks.len() as u32;
-    let marked = |block| Resident { block, count: 1, modified: rng.below(2) as u32 };
+    let marked = |block| Resident { block, count: 1, marks: rng.pick(&marks::LEGAL) };
     let mut residents: Vec<Resident> = blocks.into_iter().map(marked).collect();
     raise_counts(rng, s, &mut residents);
-    let modified = residents.iter().filter(|resident| resident.modified == 1).count() as u64;
+    let modified = residents.iter().filter(|resident| resident.is_modified()).count() as u64;
     Plan { settings: s, totals: totals(rng, modified), arrangement: arrangement(rng, s.n, r), residents }
 }
 
@@ -145,10 +146,11 @@ fn totals(rng: &mut Rng, modified: u64) -> Totals {
 pub fn work_words(rng: &mut Rng, s: Settings, length: usize) -> Vec<u32> {
     let few = if rng.one_in(2) { s.n } else { 3 * s.n };
     let blocks = rng.within(1, few).min(s.m);
-    let mut one = || match rng.below(20) {
+    let mut one = || match rng.below(22) {
         0 => word(work::FLUSH, 0),
-        1..=2 => word(work::PURGE, rng.within(0, blocks - 1)),
-        3..=8 => word(work::WRITE, rng.within(0, blocks - 1)),
+        1..=2 => word(work::TICK, 0),
+        3..=4 => word(work::PURGE, rng.within(0, blocks - 1)),
+        5..=10 => word(work::WRITE, rng.within(0, blocks - 1)),
         _ => word(work::READ, rng.within(0, blocks - 1)),
     };
     (0..length).map(|_| one()).collect()

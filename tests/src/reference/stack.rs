@@ -1,5 +1,6 @@
 //! The plain stack: residents with their bytes in recency order, the store, the totals, and batches of work words.
 use super::directory::{kind, value, word};
+use super::marks::Marks;
 use super::settings::MAX_COUNT;
 use crate::Settings;
 
@@ -12,6 +13,7 @@ pub mod work {
     pub const WRITE: u32 = 2;
     pub const PURGE: u32 = 3;
     pub const FLUSH: u32 = 4;
+    pub const TICK: u32 = 5;
     pub const MOST_WORDS: usize = 1_024;
 }
 
@@ -22,6 +24,7 @@ pub mod answer {
     pub const REPLACED: u32 = 3;
     pub const PURGED: u32 = 4;
     pub const ABSENT: u32 = 5;
+    /// Of a flush or a tick: how many were written out.
     pub const FLUSHED: u32 = 6;
     /// Of a hit or an entered block: counts were halved.
     pub const HALVED: u32 = 1 << 26;
@@ -38,7 +41,7 @@ pub const MOST_TOTAL: u64 = (1 << 56) - 1;
 pub struct Resident {
     pub block: u32,
     pub count: u32,
-    pub modified: bool,
+    pub marks: Marks,
     pub bytes: Vec<u8>,
 }
 
@@ -77,6 +80,14 @@ impl PlainStack {
     pub fn batch(
         &mut self, lent: Lent, work: &[u32], incoming: &[u8], answers: &mut [u32], outgoing: &mut [u8],
     ) -> u32 {
+        self.watched_batch(lent, work, incoming, answers, outgoing, |_, _, _| {})
+    }
+
+    /// The same; after each word, `watch` is shown the stack, the word and its answer.
+    pub fn watched_batch(
+        &mut self, lent: Lent, work: &[u32], incoming: &[u8], answers: &mut [u32], outgoing: &mut [u8],
+        mut watch: impl FnMut(&PlainStack, u32, u32),
+    ) -> u32 {
         let refusal = self.refusal(lent, work, incoming.len(), answers.len(), outgoing.len());
         if refusal != 0 {
             return refusal;
@@ -90,8 +101,10 @@ impl PlainStack {
                 work::READ => self.read(block, outgoing.next().unwrap()),
                 work::WRITE => self.write(block, incoming.next().unwrap()),
                 work::PURGE => self.purge(block),
-                _ => self.flush(),
+                work::FLUSH => self.flush(),
+                _ => self.tick(),
             };
+            watch(self, w, *answer);
         }
         0
     }
@@ -121,7 +134,7 @@ impl PlainStack {
     fn well_formed(&self, w: u32) -> bool {
         match kind(w) {
             work::READ | work::WRITE | work::PURGE => value(w) < self.settings.m,
-            work::FLUSH => value(w) == 0,
+            work::FLUSH | work::TICK => value(w) == 0,
             _ => false,
         }
     }
@@ -154,13 +167,14 @@ impl PlainStack {
             }
         };
         self.residents[0].bytes = bytes.to_vec();
-        self.residents[0].modified = true;
+        // a further write keeps the seen mark
+        self.residents[0].marks.modified = true;
         self.halved_after(answer)
     }
 
     fn purge(&mut self, block: u32) -> u32 {
         match self.position(block) {
-            Some(p) => word(answer::PURGED, u32::from(self.residents.remove(p).modified)),
+            Some(p) => word(answer::PURGED, u32::from(self.residents.remove(p).marks.modified)),
             None => word(answer::ABSENT, 0),
         }
     }
@@ -168,10 +182,25 @@ impl PlainStack {
     fn flush(&mut self) -> u32 {
         let mut written = 0;
         for p in 0..self.residents.len() {
-            if self.residents[p].modified {
+            if self.residents[p].marks.modified {
                 self.write_out(p);
-                self.residents[p].modified = false;
                 written += 1;
+            }
+        }
+        word(answer::FLUSHED, written)
+    }
+
+    /// Writes out every modified resident that has already seen a tick, and marks every other modified one as having
+    /// seen it.
+    fn tick(&mut self) -> u32 {
+        let mut written = 0;
+        for p in 0..self.residents.len() {
+            let marks = self.residents[p].marks;
+            if marks.modified && marks.seen {
+                self.write_out(p);
+                written += 1;
+            } else if marks.modified {
+                self.residents[p].marks.seen = true;
             }
         }
         word(answer::FLUSHED, written)
@@ -192,7 +221,7 @@ impl PlainStack {
     }
 
     fn enter(&mut self, block: u32, bytes: Vec<u8>) {
-        self.residents.insert(0, Resident { block, count: 1, modified: false, bytes });
+        self.residents.insert(0, Resident { block, count: 1, marks: Marks::NONE, bytes });
     }
 
     /// The answer of a block that is about to enter; with N residents, one leaves.
@@ -202,7 +231,7 @@ impl PlainStack {
         }
         let chains = self.chains_looked_at();
         let position = self.victim();
-        let written_out = self.residents[position].modified;
+        let written_out = self.residents[position].marks.modified;
         if written_out {
             self.write_out(position);
         }
@@ -246,9 +275,11 @@ impl PlainStack {
         answer + answer::HALVED
     }
 
+    /// The bytes go to the store, and both marks are cleared.
     fn write_out(&mut self, position: usize) {
         let place = self.place(self.residents[position].block);
         self.store[place].copy_from_slice(&self.residents[position].bytes);
+        self.residents[position].marks = Marks::NONE;
         self.outs += 1;
     }
 

@@ -2,13 +2,14 @@
 //! clause can notice. Beside each limit stands the directory on the limit, which is sound.
 use super::{either, position, sound, two_positions, unsound, Aimed};
 use cache_tests::reference::builder::{Plan, Totals};
-use cache_tests::reference::directory::{header, number, MAX_VALUE};
+use cache_tests::reference::directory::{entry, header, number, value, word, MAX_VALUE, NUMBER};
+use cache_tests::reference::marks;
 use cache_tests::reference::rng::Rng;
 use cache_tests::reference::samples;
 use cache_tests::reference::settings::{sum_limit, MAX_AMAX, MAX_B, MAX_CMAX, MAX_COUNT, MAX_M, MAX_N};
 use cache_tests::Settings;
 
-pub const AIMED: [Aimed; 24] = [
+pub const AIMED: [Aimed; 29] = [
     unsound("same block twice", same_block_twice),
     unsound("block M", block_m),
     unsound("block beyond M", block_beyond_m),
@@ -16,7 +17,12 @@ pub const AIMED: [Aimed; 24] = [
     unsound("count 0", |plan, rng| with_count(plan, rng, 0)),
     unsound("count 65,536", |_, rng| high_count(rng, MAX_COUNT + 1)),
     sound("count 65,535", |_, rng| high_count(rng, MAX_COUNT)),
-    unsound("modified 2 or more", modified_2),
+    unsound("modified word 2", |plan, rng| with_marks(plan, rng, &[2])),
+    unsound("modified word 4 or more", |plan, rng| with_marks(plan, rng, &[4, 5, 6, 7, 8, 9, 11, 1 << 27, MAX_VALUE])),
+    sound("modified word 0, 1 or 3", |plan, rng| with_marks(plan, rng, &marks::LEGAL)),
+    unsound("modified word of another kind", marks_of_a_kind),
+    sound("seen is no second mark in the totals", all_seen),
+    unsound("seen residents, outs + modified = writes + 1", one_seen_too_many),
     sound("sum at Amax x N", |plan, rng| with_sum(plan, rng, 0)),
     unsound("sum Amax x N + 1", |plan, rng| with_sum(plan, rng, 1)),
     unsound("sum word off by one", sum_word),
@@ -85,13 +91,35 @@ fn high_count(rng: &mut Rng, count: u32) -> Option<Vec<u32>> {
     Some(plan.build())
 }
 
-fn modified_2(plan: &Plan, rng: &mut Rng) -> Option<Vec<u32>> {
+/// With room for it in the totals, whatever it counts for.
+fn with_marks(plan: &Plan, rng: &mut Rng, marks: &[u32]) -> Option<Vec<u32>> {
     let mut plan = plan.clone();
     let p = position(&plan, rng)?;
-    plan.residents[p].modified = rng.pick(&[2, 3, 4, MAX_VALUE]);
-    // room for it in the totals, whatever it counts for
+    plan.residents[p].marks = rng.pick(marks);
     plan.totals = Totals { writes: 1 << 40, outs: 0, ..plan.totals };
     Some(plan.build())
+}
+fn marks_of_a_kind(plan: &Plan, rng: &mut Rng) -> Option<Vec<u32>> {
+    let mut words = plan.build();
+    let e = plan.arrangement.entries[position(plan, rng)?];
+    let address = plan.map().entry(e, entry::MODIFIED);
+    let kinds: Vec<u32> = (0..16).filter(|&kind| kind != NUMBER).collect();
+    words[address] = word(rng.pick(&kinds), value(words[address]));
+    Some(words)
+}
+/// Every resident has both marks, and the totals have room for one each.
+fn seen_by_all(plan: &Plan, above: u64) -> Option<Vec<u32>> {
+    let mut plan = plan.clone();
+    plan.residents.iter_mut().for_each(|resident| resident.marks = 3);
+    let outs = 5 + above;
+    plan.totals = Totals { writes: plan.modified() + 5, outs, ..plan.totals };
+    (plan.modified() > 0).then(|| plan.build())
+}
+fn all_seen(plan: &Plan, _: &mut Rng) -> Option<Vec<u32>> {
+    seen_by_all(plan, 0)
+}
+fn one_seen_too_many(plan: &Plan, _: &mut Rng) -> Option<Vec<u32>> {
+    seen_by_all(plan, 1)
 }
 
 /// Counts that sum up to the limit and `above`.

@@ -1,7 +1,7 @@
 //! The examples of the scope, those with a letter and the others, each beside the plain stack.
 use cache_tests::reference::beside::{Beside, Call};
 use cache_tests::reference::builder::{Arrangement, Plan, Resident, Totals};
-use cache_tests::reference::directory::{fresh_words, header, kind, value, word};
+use cache_tests::reference::directory::{fresh_words, header, kind, value, word, MAX_VALUE};
 use cache_tests::reference::rng::Rng;
 use cache_tests::reference::settings::directory_length;
 use cache_tests::reference::stack::{answer, work, Lent};
@@ -140,7 +140,7 @@ fn words_of_a_batch() {
 #[test]
 fn a_count_of_65_535_stays() {
     let s = Settings { n: 100, nnew: 1, nold: 1, cmax: 3, amax: 1_000, b: 8, m: 64 };
-    let resident = |block, count| Resident { block, count, modified: 0 };
+    let resident = |block, count| Resident { block, count, marks: 0 };
     let plan = Plan {
         settings: s,
         residents: vec![resident(7, 1), resident(9, 65_534), resident(8, 20_000)],
@@ -184,8 +184,9 @@ fn numbers_in_the_order_of_the_table() {
     assert_eq!(number(call(Lent { data: 31, store: 513 }, many.clone(), 0, 0, 0)), 7);
     assert_eq!(number(call(Lent { store: 513, ..whole }, many.clone(), 0, 0, 0)), 12);
     assert_eq!(number(call(whole, many, 0, 0, 0)), 8);
-    let wrong = [word(0, 1), word(5, 1), word(15, 1), word(1, 64), word(2, 64), word(3, 64), word(4, 1)];
-    for w in wrong {
+    let kinds = [word(0, 0), word(0, 1), word(6, 0), word(6, 1), word(7, 0), word(15, 1)];
+    let values = [word(1, 64), word(2, 64), word(3, 64), word(4, 1), word(5, 1), word(5, 63), word(5, MAX_VALUE)];
+    for w in kinds.into_iter().chain(values) {
         assert_eq!(number(call(whole, vec![w], 0, 0, 0)), 9, "{w:#x}");
         assert_eq!(number(call(whole, vec![read, write, w], 8, 3, 8)), 9, "{w:#x}");
     }
@@ -198,5 +199,5 @@ fn numbers_in_the_order_of_the_table() {
         belt.call_over(damaged.clone(), &call(Lent { data: 0, store }, vec![0; 1_025], 0, 0, 0));
     }
     println!("numbers returned: {:?}", belt.seen.numbers);
-    assert_eq!(belt.seen.numbers, [1, 0, 0, 0, 0, 0, 3, 4, 1, 14, 3, 0, 1]);
+    assert_eq!(belt.seen.numbers, [1, 0, 0, 0, 0, 0, 3, 4, 1, 26, 3, 0, 1]);
 }

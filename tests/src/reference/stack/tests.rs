@@ -4,6 +4,9 @@ use crate::reference::rng::Rng;
 use crate::reference::samples;
 use crate::BELT;
 
+/// Modified, and no tick seen.
+const UNSEEN: Marks = Marks { modified: true, seen: false };
+const SEEN: Marks = Marks { modified: true, seen: true };
 const ONE: Settings = Settings { n: 1, nnew: 0, nold: 1, cmax: 1, amax: 10, b: 8, m: 64 };
 
 fn start(settings: Settings) -> PlainStack {
@@ -102,6 +105,69 @@ fn flush_writes_each_modified_resident_once() {
     assert_eq!(run(&mut belt, &words[3..]).0[0], word(6, 0));
 }
 
+fn marks(stack: &PlainStack) -> Vec<Marks> {
+    stack.residents.iter().map(|resident| resident.marks).collect()
+}
+const READ: u32 = word(work::READ, 0);
+const WRITE: u32 = word(work::WRITE, 0);
+const PURGE: u32 = word(work::PURGE, 0);
+const FLUSH: u32 = word(work::FLUSH, 0);
+const TICK: u32 = word(work::TICK, 0);
+
+/// The first tick marks, the second writes out; block 2 is not modified, and block 3 is a tick behind.
+#[test]
+fn ticks_by_hand() {
+    let mut belt = start(BELT);
+    let before = belt.store.clone();
+    let (answers, _) = run(&mut belt, &[TICK, WRITE + 1, READ + 2, TICK]);
+    assert_eq!((answers[0], answers[3]), (word(6, 0), word(6, 0)));
+    assert_eq!((marks(&belt), belt.outs), (vec![Marks::NONE, SEEN], 0));
+    assert_eq!(belt.store, before);
+    let (answers, _) = run(&mut belt, &[WRITE + 3, TICK]);
+    assert_eq!(answers[1], word(6, 1));
+    assert_eq!((blocks(&belt), counts(&belt)), (vec![3, 2, 1], vec![1, 1, 1]));
+    assert_eq!((marks(&belt), belt.outs), (vec![SEEN, Marks::NONE, Marks::NONE], 1));
+    assert_eq!((&belt.store[8..16], &belt.store[24..32]), (&[1; 8][..], &before[24..32]));
+    assert_eq!(run(&mut belt, &[TICK, TICK]).0, [word(6, 1), word(6, 0)]);
+    assert_eq!((marks(&belt), belt.outs), (vec![Marks::NONE; 3], 2));
+    assert_eq!((belt.reads, belt.writes, belt.ins), (1, 2, 1));
+}
+
+/// The second write's bytes are in the store at the second tick: no stream of writes puts it off.
+#[test]
+fn a_further_write_keeps_the_seen_mark() {
+    let mut belt = start(BELT);
+    let (answers, _) = run(&mut belt, &[WRITE + 9, TICK, WRITE + 9, TICK]);
+    assert_eq!(answers, [word(2, 0), word(6, 0), word(1, 1), word(6, 1)]);
+    assert_eq!((&belt.store[72..80], marks(&belt)), (&[2; 8][..], vec![Marks::NONE]));
+    // and what was written out starts unseen again
+    assert_eq!(run(&mut belt, &[WRITE + 9]).0, [word(1, 1)]);
+    assert_eq!(marks(&belt), [UNSEEN]);
+}
+
+#[test]
+fn every_write_out_clears_both_marks() {
+    // a flush between the ticks
+    let mut belt = start(BELT);
+    let (answers, _) = run(&mut belt, &[WRITE + 9, TICK, FLUSH, WRITE + 9, TICK, TICK]);
+    assert_eq!(answers[1..], [word(6, 0), word(6, 1), word(1, 1), word(6, 0), word(6, 1)]);
+    assert_eq!(belt.store[72..80], [2; 8]);
+    // a victim that had seen a tick enters again and starts unseen
+    let mut one = start(ONE);
+    let written_out = |block| word(3, block + answer::CHAIN + answer::WRITTEN_OUT);
+    let (answers, _) = run(&mut one, &[WRITE + 3, TICK, READ + 5, WRITE + 3, TICK, TICK]);
+    let replaced = word(3, 5 + answer::CHAIN);
+    assert_eq!(answers, [word(2, 0), word(6, 0), written_out(3), replaced, word(6, 0), word(6, 1)]);
+    // so does the block that takes its place
+    let (answers, _) = run(&mut one, &[WRITE + 3, TICK, WRITE + 5, TICK, TICK]);
+    assert_eq!(answers[1..], [word(6, 0), written_out(3), word(6, 0), word(6, 1)]);
+    // and one that was purged
+    let mut one = start(ONE);
+    let (answers, _) = run(&mut one, &[WRITE + 3, TICK, PURGE + 3, TICK, WRITE + 3, TICK, PURGE + 3, PURGE + 3]);
+    assert_eq!(answers[1..4], [word(6, 0), word(4, 1), word(6, 0)]);
+    assert_eq!(answers[4..], [word(2, 0), word(6, 0), word(4, 1), word(5, 0)]);
+}
+
 #[test]
 fn a_write_makes_no_block_in() {
     let mut one = start(ONE);
@@ -119,7 +185,7 @@ fn the_victim_around_the_chain_limit() {
     for (counts, expected_victim, chains) in cases {
         let mut stack = start(settings);
         // blocks are named by their positions
-        let resident = |(p, count)| Resident { block: p as u32, count, modified: false, bytes: vec![0; 8] };
+        let resident = |(p, count)| Resident { block: p as u32, count, marks: Marks::NONE, bytes: vec![0; 8] };
         stack.residents = counts.into_iter().enumerate().map(resident).collect();
         let (answers, _) = run(&mut stack, &reads(&[10]));
         assert_eq!(answers, [word(3, expected_victim + chains * answer::CHAIN)], "{counts:?}");
@@ -159,7 +225,9 @@ fn numbers_7_to_12_on_and_beside_their_limits() {
         assert_eq!(number(Lent { store, ..whole }, &vec![0; 1_025], 0, 0, 0), 12, "{store} bytes");
     }
     assert_eq!(number(whole, &vec![0; 1_025], 0, 0, 0), 8);
-    for wrong in [word(0, 1), word(5, 1), word(15, 1), word(1, 64), word(2, 64), word(3, 64), word(4, 1)] {
+    let kinds = [word(0, 0), word(0, 1), word(6, 0), word(7, 0), word(15, 1)];
+    let values = [word(1, 64), word(2, 64), word(3, 64), word(4, 1), word(5, 1), word(5, 63), word(5, 64)];
+    for wrong in kinds.into_iter().chain(values) {
         assert_eq!(number(whole, &[wrong], 0, 0, 0), 9, "{wrong:#x}");
     }
     assert_eq!(number(whole, &[word(1, 63)], 0, 0, 8), 10);
@@ -175,13 +243,52 @@ fn numbers_7_to_12_on_and_beside_their_limits() {
     assert_eq!(belt.batch(whole, &[purge], &[], &mut answers, &mut []), 0);
 }
 
+/// One word, the bytes that it brought and gave, its answer, and the stack before and after it.
+struct Step<'a> {
+    w: u32,
+    incoming: [u8; 2],
+    outgoing: [u8; 2],
+    answered: u32,
+    before: &'a PlainStack,
+    after: &'a PlainStack,
+}
+
+/// What a word of its kind must do, `present` being what readers see; how many blocks a tick wrote out and marked.
+fn by_kind(step: &Step, present: &mut [Vec<u8>]) -> (u32, usize) {
+    let (block, before, after) = (value(step.w) as usize, step.before, step.after);
+    match kind(step.w) {
+        work::READ => assert_eq!(step.outgoing, present[block][..]),
+        work::WRITE => present[block] = step.incoming.to_vec(),
+        // modified bytes are given up
+        work::PURGE => present[block] = after.store[2 * block..2 * block + 2].to_vec(),
+        work::FLUSH => assert!(after.residents.iter().all(|resident| resident.marks == Marks::NONE)),
+        _ => {
+            let after_tick = |before: Marks| Marks { modified: before == UNSEEN, seen: before == UNSEEN };
+            let pairs = before.residents.iter().zip(&after.residents);
+            assert!(pairs.clone().all(|(was, is)| is.marks == after_tick(was.marks)));
+            assert_eq!(u64::from(value(step.answered)), after.outs - before.outs);
+            return (value(step.answered), pairs.filter(|(was, _)| was.marks == UNSEEN).count());
+        }
+    }
+    (0, 0)
+}
+
+/// The victim was old and is gone, and the chains reported are its count or Cmax.
+fn replaced_fairly(step: &Step) {
+    let (s, victim) = (step.before.settings, value(step.answered) % answer::CHAIN);
+    let p = step.before.position(victim).unwrap();
+    let chains = value(step.answered) / answer::CHAIN % 128;
+    assert!(p >= (s.n - s.nold) as usize && step.after.position(victim).is_none());
+    assert_eq!(chains, step.before.residents[p].count.min(s.cmax));
+}
+
 /// What the scope says of every history: the chains reported are the victim's count or Cmax, the victim is old, the sum
 /// keeps its limit, totals fit together, and a read gives what was last written or stood in the store.
 #[test]
 fn random_batches_keep_the_invariants() {
     let mut rng = Rng::announced("random_batches_keep_the_invariants", 51);
     let mut seen = [0u32; 7];
-    let mut halved = 0;
+    let (mut halved, mut written_by_ticks, mut marked_by_ticks) = (0, 0, 0);
     for _ in 0..600 {
         let n = rng.within(1, 20);
         let s = Settings { b: 2, m: rng.within(1, 3 * n), ..samples::settings(&mut rng, n) };
@@ -191,32 +298,31 @@ fn random_batches_keep_the_invariants() {
             let (before, bytes) = (stack.clone(), [i as u8, (i / 256) as u8]);
             let (mut answers, mut outgoing, lent) = ([0], [0; 2], stack.whole());
             assert_eq!(stack.batch(lent, &[w], &bytes, &mut answers, &mut outgoing), 0);
-            let (block, answered) = (value(w) as usize, kind(answers[0]));
+            let answered = kind(answers[0]);
             seen[answered as usize] += 1;
             halved +=
                 u32::from(matches!(answered, answer::HIT | answer::ENTERED) && value(answers[0]) >= answer::HALVED);
-            match kind(w) {
-                work::READ => assert_eq!(outgoing, present[block][..]),
-                work::WRITE => present[block] = bytes.to_vec(),
-                // modified bytes are given up
-                work::PURGE => present[block] = stack.store[2 * block..2 * block + 2].to_vec(),
-                _ => assert!(stack.residents.iter().all(|resident| !resident.modified)),
+            let step = Step { w, incoming: bytes, outgoing, answered: answers[0], before: &before, after: &stack };
+            let (written, marked) = by_kind(&step, &mut present);
+            (written_by_ticks, marked_by_ticks) = (written_by_ticks + written, marked_by_ticks + marked);
+            if matches!(kind(w), work::FLUSH | work::TICK) {
+                let order = |stack: &PlainStack| (blocks(stack), counts(stack), stack.reads, stack.writes, stack.ins);
+                assert_eq!(order(&stack), order(&before));
             }
+            assert!(stack.residents.iter().all(|resident| resident.marks.modified || !resident.marks.seen));
             if answered == answer::REPLACED {
-                let victim = value(answers[0]) % answer::CHAIN;
-                let p = before.position(victim).unwrap();
-                let chains = value(answers[0]) / answer::CHAIN % 128;
-                assert!(p >= (s.n - s.nold) as usize && stack.position(victim).is_none());
-                assert_eq!(chains, before.residents[p].count.min(s.cmax));
+                replaced_fairly(&step);
             }
             let sum: u64 = stack.residents.iter().map(|resident| u64::from(resident.count)).sum();
             assert!(sum <= u64::from(s.amax * s.n) && stack.residents.len() <= s.n as usize);
-            let modified = stack.residents.iter().filter(|resident| resident.modified).count() as u64;
+            let modified = stack.residents.iter().filter(|resident| resident.marks.modified).count() as u64;
             assert!(stack.ins <= stack.reads && stack.outs + modified <= stack.writes);
         }
     }
     println!("answers 1 to 6: {:?}, {halved} with counts halved", &seen[1..]);
+    println!("ticks wrote out {written_by_ticks} blocks and marked {marked_by_ticks}");
     assert!(seen[1..].iter().all(|&times| times > 1_000) && halved > 1_000);
+    assert!(written_by_ticks > 1_000 && marked_by_ticks > 1_000);
 }
 
 #[test]
