@@ -41,7 +41,8 @@
  *    7  data below N * B or store below M * B bytes                          batch, look
  *   12  store above M * B bytes                                              batch, look
  *    8  more than 1,024 work words                                           batch
- *    9  a kind outside 1 to 4, a block of M or more, a flush with a value    batch; look: a block of M or more
+ *    9  a kind outside 1 to 5, a block of M or more, a flush or a tick       batch; look: a block of M or more
+ *       with a value
  *   10  answers, incoming or outgoing shorter than the batch needs           batch; totals: out below 4 numbers;
  *                                                                            occupancy: out below 16 words
  *   11  reads + writes + batch length above 2^56 - 1                         batch
@@ -53,8 +54,8 @@
 #include <stdint.h>
 
 /* The version, as a number for #if (major * 10000 + minor * 100 + patch) and as a text. */
-#define FBR_VERSION 401
-#define FBR_VERSION_TEXT "0.4.1"
+#define FBR_VERSION 500
+#define FBR_VERSION_TEXT "0.5.0"
 
 #ifdef __cplusplus
 extern "C" {
@@ -90,7 +91,7 @@ static inline const char *fbr_number_text(uint32_t number) {
     case FBR_SHORT_DATA_OR_STORE: return "data is shorter than N x B bytes, or the store shorter than M x B";
     case FBR_LONG_STORE: return "the store is longer than M x B bytes";
     case FBR_TOO_MANY_WORDS: return "the batch has more than 1,024 work words";
-    case FBR_BAD_WORD: return "a block is M or more, a work word has a wrong kind, or a flush has a value";
+    case FBR_BAD_WORD: return "a block is M or more, a work word has a wrong kind, or a flush or tick has a value";
     case FBR_SHORT_BUFFER: return "a buffer is too short: answers, incoming, outgoing or out";
     case FBR_TOTALS_FULL: return "reads + writes + batch length exceeds 2^56 - 1";
     default: return "not a number of this library";
@@ -101,8 +102,15 @@ static inline const char *fbr_number_text(uint32_t number) {
 #define FBR_KIND(word) ((uint32_t)(word) >> 28)
 #define FBR_VALUE(word) ((uint32_t)(word) & UINT32_C(0x0fffffff))
 
-/* Kinds of work words: read, write and purge have a block number as value, flush has 0. */
-enum { FBR_READ = 1, FBR_WRITE = 2, FBR_PURGE = 3, FBR_FLUSH = 4 };
+/*
+ * Kinds of work words: read, write and purge have a block number as value, flush and tick have 0.
+ *   read, write   a block, through the cache
+ *   purge         the block leaves the cache; bytes that are not in the store are given up
+ *   flush         writes out every modified resident
+ *   tick          writes out every modified resident that has already seen a tick, and marks every other modified one
+ *                 as having seen it: given at regular times, it keeps the store at most two periods behind
+ */
+enum { FBR_READ = 1, FBR_WRITE = 2, FBR_PURGE = 3, FBR_FLUSH = 4, FBR_TICK = 5 };
 
 /*
  * A work word. What does not fit never becomes another block's word: a value above 28 bits becomes the largest value
@@ -120,7 +128,7 @@ static inline uint32_t fbr_word(uint32_t kind, uint64_t value) {
  *   replaced  the victim's block + 2^18 * chains looked at + 2^25 if the victim was written out
  *   purged    1 if modified bytes were discarded, else 0
  *   absent    0
- *   flushed   how many blocks were written out
+ *   flushed   how many blocks were written out, by a flush or by a tick; what a tick only marked does not count
  */
 enum { FBR_HIT = 1, FBR_ENTERED = 2, FBR_REPLACED = 3, FBR_PURGED = 4, FBR_ABSENT = 5, FBR_FLUSHED = 6 };
 

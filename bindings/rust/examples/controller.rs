@@ -1,4 +1,5 @@
-//! A sorting controller's day: batches, a save every few batches, damage, and two ways to go on after it.
+//! A sorting controller's day: batches, a save every few batches, damage, and two ways to go on after it; then an
+//! afternoon with short backup power, where a tick after every batch keeps the store close behind.
 //!
 //! A save is one file: "FBRSAVE1", three lengths (directory words, data bytes, store bytes; 8 bytes each), directory,
 //! data, store, and the 64-bit FNV-1a of all before it. All numbers have their low byte first.
@@ -119,13 +120,15 @@ fn hits(ran: &Ran) -> usize {
     ran.answers.iter().filter(|answer| matches!(answer, Answer::Hit { .. })).count()
 }
 
-/// How many blocks have other bytes in one cache than in the other.
-fn differing(one: &Cache, other: &Cache) -> Outcome<usize> {
-    let mut count = 0;
+/// The blocks that have other bytes in one cache than in the other.
+fn differing(one: &Cache, other: &Cache) -> Outcome<Vec<u32>> {
+    let mut blocks = vec![];
     for block in 0..one.settings()?.m {
-        count += usize::from(one.look(block)? != other.look(block)?);
+        if one.look(block)? != other.look(block)? {
+            blocks.push(block);
+        }
     }
-    Ok(count)
+    Ok(blocks)
 }
 
 fn ensure(held: bool, what: &str) -> Outcome<()> {
@@ -202,16 +205,56 @@ fn day(path: &Path) -> Outcome<()> {
 
     let mut recovered = take_up(&fs::read(path)?)?;
     recovered.run(&work, &incoming)?;
-    let differ = differing(&recovered, &good)?;
+    let differ = differing(&recovered, &good)?.len();
     println!("recovered from the last good save, and the batch since then run again: {differ} blocks differ");
 
-    let lost = differing(&with_the_store_alone(cache, &settings)?, &good)?;
+    let lost = differing(&with_the_store_alone(cache, &settings)?, &good)?.len();
     println!("a fresh cache over the store given back: {lost} blocks lost what was not written out");
 
     recovered.run(&[Work::Flush], &[])?;
-    let lost = differing(&Cache::new(&settings, recovered.store().to_vec())?, &good)?;
+    let lost = differing(&Cache::new(&settings, recovered.store().to_vec())?, &good)?.len();
     println!("after a flush, a fresh cache over the store: {lost} blocks lost anything");
-    Ok(())
+    afternoon(recovered, &mut traffic)
+}
+
+/// All that each block is from now to the end of a batch: its bytes now, and what each write brings.
+fn moments(cache: &Cache, work: &[Work], incoming: &[u8]) -> Outcome<Vec<Vec<Vec<u8>>>> {
+    let mut been = vec![];
+    for block in 0..M {
+        been.push(vec![cache.look(block)?]);
+    }
+    let mut bytes = incoming.chunks_exact(B as usize);
+    for word in work {
+        if let Work::Write(block) = word {
+            been[*block as usize].push(bytes.next().ok_or("too few bytes")?.to_vec());
+        }
+    }
+    Ok(been)
+}
+
+/// A tick ends every period. Then the power fails, and the store alone is left.
+fn afternoon(mut cache: Cache, traffic: &mut Traffic) -> Outcome<()> {
+    let (mut written_out, mut been) = (vec![], vec![]);
+    for _ in 0..6 {
+        let (mut work, incoming) = traffic.batch();
+        work.push(Work::Tick);
+        // the batch begins at the tick that ended the one before
+        been = moments(&cache, &work, &incoming)?;
+        if let Some(Answer::Flushed { written }) = cache.run(&work, &incoming)?.answers.last() {
+            written_out.push(written.to_string());
+        }
+    }
+    println!("afternoon: 6 batches, and a tick after each; the ticks wrote out {} blocks", written_out.join(", "));
+
+    let left = Cache::new(&cache.settings()?, cache.store().to_vec())?;
+    let lost = differing(&left, &cache)?.len();
+    // the last batch ran between the last two ticks
+    let stored = left.store().chunks_exact(B as usize);
+    let older = stored.zip(&been).filter(|(bytes, been)| !been.iter().any(|was| was == bytes)).count();
+    println!(
+        "the power fails: {lost} blocks lost writes since the second last tick, {older} have bytes older than that"
+    );
+    ensure(older == 0, "the store is older than the second last tick")
 }
 
 /// The file of the saves, removed at the end however the program ends.

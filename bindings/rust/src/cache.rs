@@ -47,7 +47,7 @@ impl Cache {
     /// # Errors
     ///
     /// 6, 7 or 12. The error gives the parts back as they were. Where the directory is damaged, the store can still be
-    /// used as it is, without what was written since the last flush and not written out by a replacement:
+    /// used as it is, without what was written since the last flush and not written out by a replacement or a tick:
     ///
     /// ```
     /// use fbr::{Cache, NotTaken, Refusal, Settings, Work};

@@ -27,7 +27,7 @@ pub enum Refusal {
     LongStore,
     /// 8: the batch has more than 1,024 work words.
     TooManyWords,
-    /// 9: a work word's kind is outside 1 to 4, a block is M or more, or a flush has a value.
+    /// 9: a work word's kind is outside 1 to 5, a block is M or more, or a flush or a tick has a value.
     BadWord,
     /// 10: answers, incoming or outgoing is shorter than the batch needs, or a look's buffer shorter than B.
     ShortBuffer,
@@ -98,7 +98,7 @@ impl Refusal {
             Refusal::ShortDataOrStore => "data is shorter than N x B bytes, or the store shorter than M x B",
             Refusal::LongStore => "the store is longer than M x B bytes",
             Refusal::TooManyWords => "the batch has more than 1,024 work words",
-            Refusal::BadWord => "a block is M or more, a work word has a wrong kind, or a flush has a value",
+            Refusal::BadWord => "a block is M or more, a work word has a wrong kind, or a flush or tick has a value",
             Refusal::ShortBuffer => "a buffer is too short: answers, incoming, outgoing or out",
             Refusal::TotalsFull => "reads + writes + batch length exceeds 2^56 - 1",
             Refusal::Unknown(_) => "unknown to this crate, so the archive is of another version",

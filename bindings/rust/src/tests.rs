@@ -7,6 +7,8 @@ mod occupancy;
 const BELT: Settings = Settings { n: 4, nnew: 1, nold: 2, cmax: 3, amax: 100, b: 8, m: 64 };
 const ONE: Settings = Settings { n: 1, nnew: 0, nold: 1, cmax: 1, amax: 10, b: 8, m: 64 };
 const ENTERED: Answer = Answer::Entered { halved: false };
+/// Of a flush or a tick.
+const WROTE_NONE: Answer = Answer::Flushed { written: 0 };
 
 /// A fresh cache over lent memory; block k of the store is all k.
 struct Lent {
@@ -120,6 +122,36 @@ fn looks_after_writes() {
     assert_eq!(belt.store[24..40], [[103; 8], [102; 8]].concat());
 }
 
+/// The store has the bytes of a further write at the second tick; a flush between two ticks starts anew.
+#[test]
+fn ticks_write_out_what_has_seen_one() {
+    let mut belt = Lent::new(BELT);
+    let wrote_one = Answer::Flushed { written: 1 };
+    let words = [Work::Write(3), Work::Tick, Work::Write(3), Work::Write(4), Work::Tick];
+    assert_eq!(belt.answers(&words), [ENTERED, WROTE_NONE, hit(1), ENTERED, wrote_one]);
+    assert_eq!(belt.store[24..40], [[102; 8], [4; 8]].concat());
+    assert_eq!(belt.memory().occupancy().unwrap().modified(), 1);
+    // the second tick for block 4; a third one has nothing to do
+    assert_eq!(belt.answers(&[Work::Tick, Work::Tick]), [wrote_one, WROTE_NONE]);
+    assert_eq!((belt.store[32], belt.totals().outs), (103, 2));
+    let words = [Work::Write(3), Work::Tick, Work::Flush, Work::Write(3), Work::Tick, Work::Tick];
+    assert_eq!(belt.answers(&words)[1..], [WROTE_NONE, wrote_one, hit(2), WROTE_NONE, wrote_one]);
+}
+
+/// A directory that has seen a tick is sound with modified words of 3 and with no others above 1.
+#[test]
+fn the_modified_word_has_two_marks() {
+    let mut belt = Lent::new(BELT);
+    belt.answers(&[Work::Write(3), Work::Tick]);
+    // the first entry's fourth word, behind 24 words, 3 chains and 4 buckets
+    let at = 24 + 2 * 3 + 4 + 3;
+    assert_eq!(belt.directory[at], 1 << 28 | 3);
+    for value in 0..64 {
+        belt.directory[at] = 1 << 28 | value;
+        assert_eq!(sound(&belt.directory), [0, 1, 3].contains(&value), "{value}");
+    }
+}
+
 /// Fresh declines the settings, and the directory stays.
 fn declined(s: Settings, words: usize) -> u32 {
     let mut directory = vec![7; words];
@@ -160,11 +192,12 @@ fn numbers_6_to_12() {
         assert_eq!(number(&mut belt, &work, incoming, answers, outgoing), 10);
     }
     let wrong = [Work::Read(64), Work::Write(1 << 28), Work::Purge(u32::MAX)].map(Work::word);
-    for word in wrong.into_iter().chain([0, 5 << 28, 4 << 28 | 1]) {
+    for word in wrong.into_iter().chain([0, 6 << 28, 15 << 28, 4 << 28 | 1, 5 << 28 | 1, 5 << 28 | 63]) {
         assert_eq!(number(&mut belt, &[word], 8, 1, 8), 9, "{word:#x}");
     }
     assert_eq!(number(&mut belt, &[Work::Flush.word(); 1_025], 0, 1_025, 0), 8);
     assert_eq!(belt.answers(&[Work::Flush; 1_024]).len(), 1_024);
+    assert_eq!(belt.answers(&[Work::Tick; 1_024]), [WROTE_NONE; 1_024]);
 
     belt.data.pop();
     assert_eq!(number(&mut belt, &work, 8, 2, 8), 7);

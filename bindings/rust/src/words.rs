@@ -13,6 +13,25 @@ pub enum Work {
     Purge(u32),
     /// Write every modified resident to the store.
     Flush,
+    /// Write every modified resident that has already seen a tick to the store, and mark every other modified one as
+    /// having seen it.
+    ///
+    /// A block that stays resident is written out at the second tick after its first unsaved write at the latest; no
+    /// stream of writes puts that off.
+    ///
+    /// ```
+    /// use fbr::{Answer, Cache, Settings, Work};
+    ///
+    /// let settings = Settings::c51(100, 8, 1_000);
+    /// let mut cache = Cache::new(&settings, vec![0; settings.store_bytes()])?;
+    /// let ran = cache.run(&[Work::Write(7), Work::Tick], b"first...")?;
+    /// assert_eq!(ran.answers[1], Answer::Flushed { written: 0 });
+    /// let ran = cache.run(&[Work::Write(7), Work::Tick], b"second..")?;
+    /// assert_eq!(ran.answers[1], Answer::Flushed { written: 1 });
+    /// assert_eq!(&cache.store()[56..64], b"second..");
+    /// # Ok::<(), fbr::Refusal>(())
+    /// ```
+    Tick,
 }
 
 impl Work {
@@ -23,6 +42,7 @@ impl Work {
             Work::Write(block) => (2, block),
             Work::Purge(block) => (3, block),
             Work::Flush => (4, 0),
+            Work::Tick => (5, 0),
         };
         kind << 28 | if value > MAX_VALUE { MAX_VALUE } else { value }
     }
@@ -60,9 +80,9 @@ pub enum Answer {
     },
     /// The block to purge was not in the cache.
     Absent,
-    /// The flush was carried out.
+    /// The flush or the tick was carried out. One word answers both: which it was, the work word says.
     Flushed {
-        /// How many blocks were written to the store.
+        /// How many blocks were written to the store. Those that a tick only marked do not count.
         written: u32,
     },
     /// A word that this crate doesn't know, as it is: the archive is of another version.
