@@ -1,7 +1,7 @@
 // Answer words: the kind in the top 4 bits, the value in the low 28.
 ghost use mathlib.Core.Path.{_≡_};
 ghost use Prim.Native.Nat.{_^_, _≤_, _<_};
-ghost use Rattle.stack.specs.Stack.{hit, entered, replaced, purged, absent, flushed, answerWord};
+ghost use Rattle.stack.specs.Stack.{hit, entered, replaced, purged, absent, flushed, missRefused, pinned, purgeRefused, answerWord};
 
 const HIT: u32 = 268435456;
 
@@ -14,6 +14,12 @@ const PURGED: u32 = 1073741824;
 const ABSENT: u32 = 1342177280;
 
 const FLUSHED: u32 = 1610612736;
+
+const ALL_PINNED: u32 = 1879048192;
+
+const PINNED: u32 = 2147483648;
+
+const PURGE_REFUSED: u32 = 2415919104;
 
 // What is added where counts were halved, for each chain looked at, and where the victim was written out.
 const HALVED: u32 = 67108864;
@@ -77,4 +83,28 @@ pub fn flushed_word(n: u32) -> u32
     ensures { λ r. ⌜ r ≡ answerWord (flushed n) ⌝ }
 {
     FLUSHED + n
+}
+
+// A miss, while all residents are pinned.
+pub fn all_pinned_word() -> u32
+    ensures { λ r. ⌜ r ≡ answerWord missRefused ⌝ }
+{
+    ALL_PINNED
+}
+
+// A resident was pinned or unpinned: 1 if it is pinned afterwards.
+pub fn pinned_word(on: bool) -> u32
+    ensures { λ r. ⌜ r ≡ answerWord (pinned on) ⌝ }
+{
+    if on {
+        return PINNED + 1;
+    }
+    PINNED
+}
+
+// A purge of a pinned resident, which stays.
+pub fn purge_refused_word() -> u32
+    ensures { λ r. ⌜ r ≡ answerWord purgeRefused ⌝ }
+{
+    PURGE_REFUSED
 }

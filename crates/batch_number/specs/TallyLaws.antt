@@ -8,10 +8,10 @@ use mathlib.Core.Bool.{Bool, true, false, _&&_}
 use mathlib.Core.List.{List, [], _∷_, map}
 use lib.ListN.{length, take, getD}
 use lib.Dec.{eqb, ltb}
-use borrow.Author.Tests.{lt-ltb, le-ltb, ne-eqb}
-use Rattle.basics.specs.Basics.{if_then_else_, total}
+use borrow.Author.Tests.{ne-eqb}
+use Rattle.basics.specs.Basics.{if_then_else_, pick, total}
 use Rattle.settings.specs.declared.Settings.{Settings}
-use Rattle.stack.specs.Stack.{Work, read, write, purge, flush, tick, invalid}
+use Rattle.stack.specs.Stack.{Work, read, write, purge, flush, tick, invalid, pin, unpin}
 use Rattle.stack.specs.Batch.{work, isRead, isWrite, isInvalid, howMany}
 use Rattle.cache_steps.specs.BatchFacts.{one-more}
 use Rattle.batch_number.specs.declared.Tally.{Tally}
@@ -34,6 +34,8 @@ module _ (s : Settings) (w : ℕ) where
       else if eqb k 3 && inside then purge v
       else if eqb k 4 && none then flush
       else if eqb k 5 && none then tick
+      else if eqb k 6 && inside then pin v
+      else if eqb k 7 && inside then unpin v
       else invalid
 
   none : (a : Bool) (x y : Work) → (if a && false then x else y) ≡ y
@@ -43,7 +45,7 @@ module _ (s : Settings) (w : ℕ) where
   -- a flush or a tick, and one with a value
   pub kind-flush : 3 < kind → kind ≤ 5 → value ≡ 0 → kind ≡ kindOf (work s w)
   unfolding work
-  kind-flush h l e = rw e (go kind h l)
+  kind-flush low high e = rw e (go kind low high)
     where
       go : (k : ℕ) → 3 < k → k ≤ 5
           → k ≡ kindOf (worked k (ltb 0 (s .m)) true 0)
@@ -55,21 +57,21 @@ module _ (s : Settings) (w : ℕ) where
       go (suc (suc (suc (suc (suc zero))))) h l = refl
       go (suc (suc (suc (suc (suc (suc k)))))) h l = absurd (omega arith)
 
-  pub kind-valued : 3 < kind → value ≢ 0 → 0 ≡ kindOf (work s w)
+  pub kind-valued : 3 < kind → kind ≤ 5 → value ≢ 0 → 0 ≡ kindOf (work s w)
   unfolding work
-  kind-valued h n =
-      rw (ne-eqb kind 1 (λ e. omega arith), ne-eqb kind 2 (λ e. omega arith), ne-eqb kind 3 (λ e. omega arith), ne-eqb value 0 n)
+  kind-valued low high n =
+      rw (
+        ne-eqb kind 1 (λ e. omega arith),
+        ne-eqb kind 2 (λ e. omega arith),
+        ne-eqb kind 3 (λ e. omega arith),
+        ne-eqb kind 6 (λ e. omega arith),
+        ne-eqb kind 7 (λ e. omega arith),
+        ne-eqb value 0 n,
+      )
       (sym (ap kindOf (none (eqb kind 4) _ _ ∙ none (eqb kind 5) _ _)))
 
-  -- a block of M or more
-  pub kind-outside : kind ≤ 3 → s .m ≤ value → 0 ≡ kindOf (work s w)
-  unfolding work
-  kind-outside l h =
-      rw (le-ltb value (s .m) h, ne-eqb kind 4 (λ e. omega arith), ne-eqb kind 5 (λ e. omega arith))
-      (sym (ap kindOf (none (eqb kind 1) _ _ ∙ none (eqb kind 2) _ _ ∙ none (eqb kind 3) _ _)))
-
-  -- a kind outside 1 to 5
-  pub kind-unknown : 5 < kind → 0 ≡ kindOf (work s w)
+  -- a kind outside 1 to 7
+  pub kind-unknown : 7 < kind → 0 ≡ kindOf (work s w)
   unfolding work
   kind-unknown h =
       rw (
@@ -78,20 +80,31 @@ module _ (s : Settings) (w : ℕ) where
         ne-eqb kind 3 (λ e. omega arith),
         ne-eqb kind 4 (λ e. omega arith),
         ne-eqb kind 5 (λ e. omega arith),
+        ne-eqb kind 6 (λ e. omega arith),
+        ne-eqb kind 7 (λ e. omega arith),
       )
 
-  -- a block of the store
-  pub kind-inside : kind ≤ 3 → value < s .m → kind ≡ kindOf (work s w)
+  -- a kind that has a block, of the store or not
+  pub kind-block : kind ≤ 7 → kind ≢ 4 → kind ≢ 5 → pick (ltb value (s .m)) kind 0 ≡ kindOf (work s w)
   unfolding work
-  kind-inside l h = rw (lt-ltb value (s .m) h) (go kind l)
+  kind-block = go kind (ltb value (s .m))
     where
-      go : (k : ℕ) → k ≤ 3
-          → k ≡ kindOf (worked k true (eqb value 0) value)
-      go zero l = refl
-      go (suc zero) l = refl
-      go (suc (suc zero)) l = refl
-      go (suc (suc (suc zero))) l = refl
-      go (suc (suc (suc (suc k)))) l = absurd (omega arith)
+      go : (k : ℕ) (inside : Bool) → k ≤ 7 → k ≢ 4 → k ≢ 5 → pick inside k 0 ≡ kindOf (worked k inside (eqb value 0) value)
+      go zero true l p q = refl
+      go zero false l p q = refl
+      go (suc zero) true l p q = refl
+      go (suc zero) false l p q = refl
+      go (suc (suc zero)) true l p q = refl
+      go (suc (suc zero)) false l p q = refl
+      go (suc (suc (suc zero))) true l p q = refl
+      go (suc (suc (suc zero))) false l p q = refl
+      go (suc (suc (suc (suc zero)))) inside l p q = absurd (p refl)
+      go (suc (suc (suc (suc (suc zero))))) inside l p q = absurd (q refl)
+      go (suc (suc (suc (suc (suc (suc zero)))))) true l p q = refl
+      go (suc (suc (suc (suc (suc (suc zero)))))) false l p q = refl
+      go (suc (suc (suc (suc (suc (suc (suc zero))))))) true l p q = refl
+      go (suc (suc (suc (suc (suc (suc (suc zero))))))) false l p q = refl
+      go (suc (suc (suc (suc (suc (suc (suc (suc k)))))))) inside l p q = absurd (omega arith)
 
 -- ---- one word more, by its kind
 
@@ -102,6 +115,8 @@ module _ (t : Tally) where
   plus-invalid (purge b) e = absurd (omega arith)
   plus-invalid flush e = absurd (omega arith)
   plus-invalid tick e = absurd (omega arith)
+  plus-invalid (pin b) e = absurd (omega arith)
+  plus-invalid (unpin b) e = absurd (omega arith)
   plus-invalid invalid e = simp add-zero
 
   pub plus-read : (w : Work) → kindOf w ≡ 1 → record { reads = t .reads + 1; writes = t .writes; invalid = t .invalid } ≡ plus t w
@@ -110,6 +125,8 @@ module _ (t : Tally) where
   plus-read (purge b) e = absurd (omega arith)
   plus-read flush e = absurd (omega arith)
   plus-read tick e = absurd (omega arith)
+  plus-read (pin b) e = absurd (omega arith)
+  plus-read (unpin b) e = absurd (omega arith)
   plus-read invalid e = absurd (omega arith)
 
   pub plus-write : (w : Work) → kindOf w ≡ 2 → record { reads = t .reads; writes = t .writes + 1; invalid = t .invalid } ≡ plus t w
@@ -118,15 +135,19 @@ module _ (t : Tally) where
   plus-write (purge b) e = absurd (omega arith)
   plus-write flush e = absurd (omega arith)
   plus-write tick e = absurd (omega arith)
+  plus-write (pin b) e = absurd (omega arith)
+  plus-write (unpin b) e = absurd (omega arith)
   plus-write invalid e = absurd (omega arith)
 
-  -- purge, flush and tick
+  -- any other
   pub plus-other : (w : Work) → kindOf w ≢ 0 → kindOf w ≢ 1 → kindOf w ≢ 2 → t ≡ plus t w
   plus-other (read b) x y z = absurd (y refl)
   plus-other (write b) x y z = absurd (z refl)
   plus-other (purge b) x y z = simp add-zero
   plus-other flush x y z = simp add-zero
   plus-other tick x y z = simp add-zero
+  plus-other (pin b) x y z = simp add-zero
+  plus-other (unpin b) x y z = simp add-zero
   plus-other invalid x y z = absurd (x refl)
 
 -- ---- the words up to one of them
@@ -162,6 +183,8 @@ tally-few s words h =
     reads-once (purge b) = omega arith
     reads-once flush = omega arith
     reads-once tick = omega arith
+    reads-once (pin b) = omega arith
+    reads-once (unpin b) = omega arith
     reads-once invalid = omega arith
 
     writes-once : (w : Work) → isWrite w ≤ 1
@@ -170,6 +193,8 @@ tally-few s words h =
     writes-once (purge b) = omega arith
     writes-once flush = omega arith
     writes-once tick = omega arith
+    writes-once (pin b) = omega arith
+    writes-once (unpin b) = omega arith
     writes-once invalid = omega arith
 
     invalid-once : (w : Work) → isInvalid w ≤ 1
@@ -178,4 +203,6 @@ tally-few s words h =
     invalid-once (purge b) = omega arith
     invalid-once flush = omega arith
     invalid-once tick = omega arith
+    invalid-once (pin b) = omega arith
+    invalid-once (unpin b) = omega arith
     invalid-once invalid = omega arith

@@ -2,9 +2,10 @@ use settings::Settings;
 use stack::Lengths;
 ghost use mathlib.Core.Path.{_≡_};
 ghost use Prim.Native.Nat.{_+_, _^_, _≤_, _<_};
+ghost use lib.Dec.{ltb};
 ghost use lib.ListN.{length};
 ghost use Rattle.settings.specs.Numbers.{settingsNumber};
-ghost use Rattle.basics.specs.Basics.{first};
+ghost use Rattle.basics.specs.Basics.{first, pick};
 ghost use Rattle.stack.specs.Batch.{work, memoryTests, batchTests};
 ghost use Rattle.batch_number.specs.Tallies.{kindOf, plus, tally};
 
@@ -13,10 +14,12 @@ const MOST_WORDS: usize = 1024;
 
 const MOST_REFERENCES: u64 = 72057594037927935;
 
-// The last kind of a work word that has a block, and the last of all.
+// The kinds of a work word: 1 to 3 have a block, the most common ones; 4 and 5 have none; 6 and 7 have one again.
 const PURGE: u32 = 3;
 
 const TICK: u32 = 5;
+
+const UNPIN: u32 = 7;
 
 // How many words of a batch are reads, writes and invalid.
 struct Tally {
@@ -25,25 +28,35 @@ struct Tally {
     invalid: u32,
 }
 
-// The kind of a work word, the top 4 bits, by its value, the low 28; 0 where the word is invalid.
+// A kind that has a block, by its value; 0 where that is no block of the store.
+fn block_kind(s: Settings, kind: u32, value: u32) -> u32
+    ensures { λ r. ⌜ r ≡ pick (ltb value (s .m)) kind 0 ⌝ }
+{
+    if value >= s.m {
+        return 0;
+    }
+    kind
+}
+
+// The kind of a work word, the top 4 bits, by its value, the low 28; 0 where the word is invalid. Kinds 4 and 5 have value 0.
 pub fn kind_of(s: Settings, word: u32) -> u32
     ensures { λ r. ⌜ r ≡ kindOf (work s word) ⌝ }
 {
     let kind = word / words::VALUES;
     let value = word % words::VALUES;
-    if kind > TICK {
-        return 0;
+    if kind <= PURGE {
+        return block_kind(s, kind, value);
     }
-    if kind > PURGE {
+    if kind <= TICK {
         if value == 0 {
             return kind;
         }
         return 0;
     }
-    if value >= s.m {
-        return 0;
+    if kind <= UNPIN {
+        return block_kind(s, kind, value);
     }
-    kind
+    0
 }
 
 // A tally with one work word more.

@@ -2,6 +2,7 @@
 use Prim.Native.Nat.{ℕ, _+_, _-_, _*_, _/_, _%_, _^_, _≤_, _<_}
 use native.Mathlib.Omega.{arith}
 use native.Mathlib.Nat.{one-mul}
+use native.Mathlib.Decide.{decLe}
 use native.Mathlib.Numerals.{add-one}
 use mathlib.Core.Path.{_≡_, refl, sym, ap, subst, _∙_}
 use mathlib.Core.Logic.{_≢_}
@@ -13,7 +14,7 @@ use lib.Dec.{T, eqb}
 use mir.Facts.{eqb-yes, eqb-no}
 use Rattle.basics.specs.Basics.{blockAt, putBlock, total}
 use Rattle.settings.specs.declared.Settings.{Settings}
-use Rattle.stack.specs.Stack.{Work, read, write, purge, flush, tick, invalid, Answer, flushed, answerWord}
+use Rattle.stack.specs.Stack.{Work, read, write, purge, flush, tick, pin, unpin, invalid, Answer, flushed, answerWord}
 use Rattle.stack.specs.Batch.{work, isRead, isWrite, isInvalid, howMany, batchNumber}
 use Rattle.stack.specs.BatchLaws.{allowed, works-inside}
 use Rattle.layout.specs.Sound.{settingsIn, totalsIn}
@@ -24,12 +25,13 @@ use Rattle.cache_steps.specs.Carried.{settingsOf, memory, Ready, Carried}
 use Rattle.cache_steps.specs.Runs.{Chain, end, snoc-word, all-carried, chain-ready, chain-answers}
 use Rattle.cache_steps.specs.BatchFacts.{valid-at, incoming-at, outgoing-at, one-more}
 use Rattle.cache_steps.specs.FlushLists.{sweep}
-use Rattle.cache_steps.specs.WorkLaws.{work-read, work-write, work-purge, work-flush}
+use Rattle.cache_steps.specs.PinStep.{pinWork}
+use Rattle.cache_steps.specs.WorkLaws.{work-read, work-write, work-purge, work-pin, work-flush}
 use Rattle.cache_steps.specs.GivenLaws.{carried-gives, chain-gives}
 use Rattle.cache_steps.specs.TotalsLaws.{chain-totals}
 use Rattle.cache_steps.specs.OverLaws.{over-set, over-put}
 use Rattle.cache_steps.specs.Accepts.{memoryIn, accepted}
-use Rattle.accesses.specs.Done.{AccessReady, ReadDone, WriteDone, PurgeDone}
+use Rattle.accesses.specs.Done.{AccessReady, ReadDone, WriteDone, PurgeDone, PinDone}
 use Rattle.cache.specs.declared.Passed.{Passed}
 use Rattle.cache.specs.Words.{WordReady, WordDone, RunReady, RunDone}
 
@@ -45,17 +47,25 @@ module _ (p : Passed) (s : Settings) (w : ℕ) (valid : isInvalid (work s w) ≡
   pub counted-write : w / 2 ^ 28 ≡ 2 → Counted (p .reads) (p .writes + 1)
   counted-write kind = rw (work-write s w kind valid .0) (omega arith, refl)
 
-  -- a purge, a flush or a tick
+  -- any other
   pub counted-none : w / 2 ^ 28 ≢ 1 → w / 2 ^ 28 ≢ 2 → Counted (p .reads) (p .writes)
   counted-none read₁ write₁ = go (eqb (w / 2 ^ 28) 3) (eqb-yes {a = w / 2 ^ 28} {b = 3}) (eqb-no {a = w / 2 ^ 28} {b = 3})
     where
       go : (x : Bool) → (T x → w / 2 ^ 28 ≡ 3) → (T (not x) → w / 2 ^ 28 ≢ 3) → Counted (p .reads) (p .writes)
       go true is differs = rw (work-purge s w (is tt) valid .0) (omega arith, omega arith)
-      go false is differs = rw (work-flush s w read₁ write₁ (differs tt) valid) (swept (eqb (w / 2 ^ 28) 5))
+      go false is differs = high (decLe (w / 2 ^ 28) 5)
         where
+          held : (on : Bool) → (p .reads ≡ p .reads + isRead (pinWork on (w % 2 ^ 28))) × (p .writes ≡ p .writes + isWrite (pinWork on (w % 2 ^ 28)))
+          held true = (omega arith, omega arith)
+          held false = (omega arith, omega arith)
+
           swept : (ticks : Bool) → (p .reads ≡ p .reads + isRead (sweep ticks)) × (p .writes ≡ p .writes + isWrite (sweep ticks))
           swept true = (omega arith, omega arith)
           swept false = (omega arith, omega arith)
+
+          high : Dec (w / 2 ^ 28 ≤ 5) → Counted (p .reads) (p .writes)
+          high (yes l) = rw (work-flush s w read₁ write₁ (differs tt) l valid) (swept (eqb (w / 2 ^ 28) 5))
+          high (no l) = rw (work-pin s w (omega arith) valid .0) (held (eqb (w / 2 ^ 28) 6))
 
 -- ---- one word
 
@@ -125,17 +135,29 @@ module _ (m : Memory) (s : Settings) (w : ℕ) (passed : Passed) (incoming outgo
         gave-is = gave-none;
       }
 
+  pub pin-word : 5 < w / 2 ^ 28 → (after : List ℕ) (r : ℕ) → PinDone (eqb (w / 2 ^ 28) 6) (m .directory) b after r
+      → WordDone m s w passed incoming outgoing r (memory after (m .bytes) (m .store)) outgoing
+  pin-word kind after r done =
+      record {
+        answer = done .answer;
+        given = [];
+        carried =
+            rw (work-pin s w kind (ready .valid) .0) (done .carried (m .bytes) (m .store) (blockAt (s .b) (passed .writes) incoming) (ready .ready));
+        word-is = done .word-is;
+        gave-is = gave-none;
+      }
+
   pub flush-ready : Ready m × (s .b ≡ settingsOf m .b)
   flush-ready = (ready .ready, size-is)
 
-  pub flush-word : w / 2 ^ 28 ≢ 1 → w / 2 ^ 28 ≢ 2 → w / 2 ^ 28 ≢ 3 → (after : Memory) (n r : ℕ)
+  pub flush-word : w / 2 ^ 28 ≢ 1 → w / 2 ^ 28 ≢ 2 → w / 2 ^ 28 ≢ 3 → w / 2 ^ 28 ≤ 5 → (after : Memory) (n r : ℕ)
       → ((x : List ℕ) → Carried m (sweep (eqb (w / 2 ^ 28) 5)) x after (flushed n) []) → r ≡ answerWord (flushed n)
       → WordDone m s w passed incoming outgoing r after outgoing
-  flush-word read₁ write₁ purge₁ after n r carried word-is =
+  flush-word read₁ write₁ purge₁ low after n r carried word-is =
       record {
         answer = flushed n;
         given = [];
-        carried = rw (work-flush s w read₁ write₁ purge₁ (ready .valid)) (carried (blockAt (s .b) (passed .writes) incoming));
+        carried = rw (work-flush s w read₁ write₁ purge₁ low (ready .valid)) (carried (blockAt (s .b) (passed .writes) incoming));
         word-is = word-is;
         gave-is = gave-none;
       }
@@ -213,6 +235,8 @@ module _ (before : Slices) (words incoming : List ℕ) (s : Settings) (after : S
       one-read (purge x) = omega arith
       one-read flush = omega arith
       one-read tick = omega arith
+      one-read (pin x) = omega arith
+      one-read (unpin x) = omega arith
       one-read invalid = omega arith
 
       one-write : (x : Work) → isWrite x ≤ 1
@@ -221,6 +245,8 @@ module _ (before : Slices) (words incoming : List ℕ) (s : Settings) (after : S
       one-write (purge x) = omega arith
       one-write flush = omega arith
       one-write tick = omega arith
+      one-write (pin x) = omega arith
+      one-write (unpin x) = omega arith
       one-write invalid = omega arith
 
       how-many : (f : Work → ℕ) → ((x : Work) → f x ≤ 1) → (xs : List ℕ) → howMany f (map (work s) xs) ≤ length xs

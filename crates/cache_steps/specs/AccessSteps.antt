@@ -2,16 +2,17 @@
 use Prim.Native.Nat.{ℕ, _+_, _-_, _*_, _≤_, _<_}
 use native.Mathlib.Omega.{arith}
 use mathlib.Core.Path.{_≡_, sym, ap, subst, subst₂, _∙_}
-use mathlib.Core.Bool.{Bool, true, false}
+use mathlib.Core.Bool.{Bool, true, false, not}
 use mathlib.Core.List.{List, []}
 use lib.ListN.{length, take}
 use lib.Dec.{T}
-use Rattle.basics.specs.Basics.{if_then_else_, putBlock}
+use Rattle.basics.specs.Basics.{if_then_else_}
 use Rattle.settings.specs.declared.Settings.{Settings}
 use Rattle.stack.specs.Counts.{chains, exceeds}
-use Rattle.stack.specs.Recency.{Place, found, unused, replacing, counts, asked, settled}
+use Rattle.stack.specs.Recency.{Place, found, unused, replacing, counts, asked, settled, allPinned, countsPins}
+use Rattle.stack.specs.RecencyLaws.{refuses}
 use Rattle.stack.specs.Stack.{Work, read, write, Answer, replaced, leaving, savedAll, present, answering, accessTotals, access, step}
-use Rattle.stack.specs.Entries.{entryBytes, entryFor, filled, entryStep, Pick}
+use Rattle.stack.specs.Entries.{entryBytes, entryFor, filled, entryStep, Pick, filledAt}
 use Rattle.stack.specs.EntriesLaws.{Entry, entry-placed}
 use Rattle.stack.specs.ForgetLaws.{length-savedAll}
 use Rattle.layout.specs.Sound.{totalsIn, residentsIn, view}
@@ -22,9 +23,10 @@ use Rattle.promises.specs.DirectoryPromises.{placeOf, Accessed}
 use Rattle.promises.specs.Demand3.{Memory}
 use Rattle.cache_steps.specs.Carried.{cacheOf, settingsOf, memory, Ready, Carried}
 use Rattle.cache_steps.specs.Carries.{cacheWith, carry}
-use Rattle.cache_steps.specs.MovedLaws.{Stands, leaving-fit, Moved, put-moved, entry-room, saved-front, present-front, present-length}
+use Rattle.cache_steps.specs.MovedLaws.{Stands, leaving-fit, Moved, entry-room, saved-front, present-front, present-length, filled-moved}
 use Rattle.cache_steps.specs.Places.{placed-in, place-stands, store-room}
-use Rattle.cache_steps.specs.Told.{storeAfter, bytesRead, told}
+use Rattle.cache_steps.specs.Told.{storeAfter, bytesRead, told, bytesAfter, refuses-is}
+use Rattle.stack.specs.PinLaws.{isRefused}
 
 abbrev pub accessing : Bool → ℕ → Work
 accessing true b = write b
@@ -37,20 +39,25 @@ module _ (m : Memory) (ready : Ready m) (b : ℕ) (written : Bool) {k e : ℕ} {
   abbrev q : Place ℕ
   q = placeOf (m .directory) b
 
-  entry : Entry s e q
-  entry =
-      subst (λ x. Entry s x q) (accessed .entry-is)
-      (entry-placed s (residentsIn (m .directory)) (sound-residents (m .directory) (ready .is-sound)) e q (placed-in (m .directory) (ready .is-sound) b) (accessed .entry-free))
+  refuses-here : refuses q ≡ isRefused answer
+  refuses-here = refuses-is q _ _ answer (accessed .answer-is)
 
-  -- the entry is one of 1 to N, so its bytes stand in the data buffer
-  pub access-least : 1 ≤ e
-  access-least = entry .least
+  -- where it isn't refused, the entry is one of 1 to N, so its bytes stand in the data buffer
+  module _ (here : T (not (isRefused answer))) where
+    entry : Entry s e q
+    entry =
+        subst (λ x. Entry s x q) (accessed .entry-is)
+        (entry-placed s (residentsIn (m .directory)) (sound-residents (m .directory) (ready .is-sound)) e q
+        (placed-in (m .directory) (ready .is-sound) b) (accessed .entry-free) (subst (λ r. T (not r)) (sym refuses-here) here))
 
-  pub access-most : e ≤ settingsOf m .n
-  access-most = entry .most
+    pub access-least : 1 ≤ e
+    access-least = entry .least
 
-  pub access-entry : (e - 1) * settingsOf m .b + settingsOf m .b ≤ length (m .bytes)
-  access-entry = entry-room s (m .bytes) (ready .bytes-long) e access-least access-most
+    pub access-most : e ≤ settingsOf m .n
+    access-most = entry .most
+
+    pub access-entry : (e - 1) * settingsOf m .b + settingsOf m .b ≤ length (m .bytes)
+    access-entry = entry-room s (m .bytes) (ready .bytes-long) e access-least access-most
 
   at-place : Stands s q
   at-place = place-stands (m .directory) (ready .is-sound) b
@@ -92,26 +99,26 @@ module _ (m : Memory) (ready : Ready m) (b : ℕ) (written : Bool) {k e : ℕ} {
         go true h = h tt
         go false h = present-length s (m .bytes) (ready .bytes-long) b inside store₁ room-after q at-place
 
-    in-bytes : Moved (s .n * s .b) (putBlock (s .b) (e - 1) put (take (s .n * s .b) (m .bytes))) (m .bytes) (putBlock (s .b) (e - 1) put (m .bytes))
-    in-bytes = let h = access-least in let g = access-most in put-moved (s .b) (e - 1) (s .n) (m .bytes) (omega arith) (ready .bytes-long) put put-length
+    in-bytes : Moved (s .n * s .b) (filledAt (s .b) e q put (take (s .n * s .b) (m .bytes))) (m .bytes) (filledAt (s .b) e q put (m .bytes))
+    in-bytes = filled-moved s (m .bytes) (ready .bytes-long) e q at-place (accessed .entry-free) put put-length
 
     -- the machine over entries
     abbrev Stepped : Bool → List ℕ → List ℕ → Type 0
     Stepped w put given =
         entryStep (cacheOf m) (accessing w b, e) incoming
-        ≡ record { after = cacheWith s d (putBlock (s .b) (e - 1) put (take (s .n * s .b) (m .bytes))) store₁; answer = answer; given = given }
+        ≡ record { after = cacheWith s d (filledAt (s .b) e q put (take (s .n * s .b) (m .bytes))) store₁; answer = answer; given = given }
 
     stepped : (w : Bool)
         → settled s (asked b w (entryFor e q) q) ≡ residentsIn d
         → accessTotals (totalsIn (m .directory)) w q ≡ totalsIn d
-        → answering (chains s (counts (residentsIn (m .directory)))) (exceeds s (counts (asked b w (entryFor e q) q))) q ≡ answer
+        → answering (chains s (countsPins (residentsIn (m .directory)))) (exceeds s (counts (asked b w (entryFor e q) q))) q ≡ answer
         → Stepped w (if w then incoming else bytes₁) (if w then [] else bytes₁)
     unfolding entryStep step access filled view
     stepped true residents totals answers =
         λ i. record {
           after = record {
             stack = record { settings = s; residents = residents i; store = first-store i; totals = totals i };
-            bytes = putBlock (s .b) (accessed .entry-is i - 1) incoming (take (s .n * s .b) (m .bytes));
+            bytes = filledAt (s .b) e q incoming (take (s .n * s .b) (m .bytes));
           };
           answer = answers i;
           given = [];
@@ -120,7 +127,7 @@ module _ (m : Memory) (ready : Ready m) (b : ℕ) (written : Bool) {k e : ℕ} {
         λ i. record {
           after = record {
             stack = record { settings = s; residents = residents i; store = first-store i; totals = totals i };
-            bytes = putBlock (s .b) (accessed .entry-is i - 1) (first-bytes i) (take (s .n * s .b) (m .bytes));
+            bytes = filledAt (s .b) e q (first-bytes i) (take (s .n * s .b) (m .bytes));
           };
           answer = answers i;
           given = first-bytes i;
@@ -135,25 +142,32 @@ module _ (m : Memory) (ready : Ready m) (b : ℕ) (written : Bool) {k e : ℕ} {
     no-still true still = absurd still
     no-still false still = absurd still
 
-    carried-out : k ≤ 20 → Carried m (accessing written b) incoming (memory d (putBlock (s .b) (e - 1) put (m .bytes)) store₁) answer (if written then [] else bytes₁)
+    -- with that data buffer and that store then; a read gives these bytes
+    abbrev CarriedTo : List ℕ → List ℕ → List ℕ → Type 0
+    CarriedTo buffer store bytes = Carried m (accessing written b) incoming (memory d buffer store) answer (if written then [] else bytes)
+
+    carried-out : k ≤ 20 → CarriedTo (filledAt (s .b) e q put (m .bytes)) store₁ bytes₁
     carried-out few =
-        carry m ready d (putBlock (s .b) (e - 1) put (m .bytes)) store₁ (accessed .kept) in-bytes store-same
+        carry m ready d (filledAt (s .b) e q put (m .bytes)) store₁ (accessed .kept) in-bytes store-same
         (accessing written b) incoming answer (if written then [] else bytes₁) e (picks written)
         (stepped written
         (ap (λ x. settled s (asked b written x q)) (accessed .entry-is) ∙ sym (accessed .residents))
         (sym (accessed .totals))
-        (ap (λ x. answering (chains s (counts (residentsIn (m .directory)))) (exceeds s (counts (asked b written x q))) q) (accessed .entry-is) ∙ accessed .answer-is))
+        (ap (λ x. answering (chains s (countsPins (residentsIn (m .directory)))) (exceeds s (counts (asked b written x q))) q) (accessed .entry-is)
+        ∙ accessed .answer-is))
         (record { few = λ calm. let h = accessed .links-few calm in omega arith; none = no-still written })
 
     -- with the bytes that the answer tells
     pub access-carried : k ≤ 20
         → Carried m (accessing written b) incoming
-        (memory d (putBlock (settingsOf m .b) (e - 1) (if written then incoming else bytesRead m b e answer) (m .bytes)) (storeAfter m b e answer))
+        (memory d (bytesAfter m b e answer (if written then incoming else bytesRead m b e answer)) (storeAfter m b e answer))
         answer (if written then [] else bytesRead m b e answer)
     access-carried few =
         let moves = told m b e q (accessed .entry-is) _ _ answer (accessed .answer-is) in
-        subst₂ (λ st by. Carried m (accessing written b) incoming (memory d (putBlock (s .b) (e - 1) (if written then incoming else by) (m .bytes)) st) answer (if written then [] else by))
-        (moves .0) (moves .1) (carried-out few)
+        let moved : List ℕ = if written then incoming else bytesRead m b e answer in
+        subst (λ buffer. CarriedTo buffer (storeAfter m b e answer) (bytesRead m b e answer)) (moves .2 moved)
+        (subst₂ (λ st by. CarriedTo (filledAt (s .b) e q (if written then incoming else by) (m .bytes)) st by) (moves .0) (moves .1)
+        (carried-out few))
 
 -- ---- the victim: a block of the store
 
@@ -161,6 +175,7 @@ victim-at : (s : Settings) (q : Place ℕ) → Stands s q → (n : ℕ) (h : Boo
 unfolding answering
 victim-at s (found x l) t n h v looked out is = let z : _≡_ {A = ℕ} 0 1 = cc in absurd (omega arith)
 victim-at s (unused l) t n h v looked out is = let z : _≡_ {A = ℕ} 0 1 = cc in absurd (omega arith)
+victim-at s (allPinned l) t n h v looked out is = let z : _≡_ {A = ℕ} 0 1 = cc in absurd (omega arith)
 victim-at s (replacing x l) t n h v looked out is = let same : x .block ≡ v = cc in let g = t .stored in omega arith
 
 module _ (m : Memory) (ready : Ready m) (b : ℕ) (written : Bool) where

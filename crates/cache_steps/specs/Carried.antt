@@ -30,7 +30,7 @@ pub record Ready (m : Memory) : Type 0 where
   pub bytes-long : settingsOf m .n * settingsOf m .b ≤ length (m .bytes)
   pub store-long : settingsOf m .m * settingsOf m .b ≤ length (m .store)
 
--- at most 20 link words changed by a word that doesn't halve the counts, none by a flush or a tick
+-- at most 20 link words changed by a word that doesn't halve the counts, none by a flush, a tick, a pin or an unpin
 pub record LinksKept (w : Work) (answer : Answer) (before after : List ℕ) : Type 0 where
   pub few : T (not (halved answer)) → linksChanged before after ≤ 20
   pub none : T (isStill w) → linksChanged before after ≡ 0

@@ -1,8 +1,8 @@
 -- How a word is shown to be carried out: an operation of the directory that kept what it promises, beside data whose front became the data
 -- of the machine over entries, and a store that became its store.
 use Prim.Native.Nat.{ℕ, _*_}
-use mathlib.Core.Path.{_≡_, sym, ap, _∙_}
-use mathlib.Core.List.{List}
+use mathlib.Core.Path.{_≡_, sym, ap, _∙_, refl}
+use mathlib.Core.List.{List, []}
 use lib.ListN.{length, take}
 use Rattle.settings.specs.declared.Settings.{Settings}
 use Rattle.stack.specs.Stack.{Work, Answer}
@@ -11,7 +11,9 @@ use Rattle.layout.specs.Sound.{totalsIn, residentsIn, view}
 use Rattle.promises.specs.DirectoryPromises.{Kept}
 use Rattle.promises.specs.Demand3.{Memory}
 use Rattle.cache_steps.specs.Carried.{cacheOf, settingsOf, memory, Ready, LinksKept, Carried}
-use Rattle.cache_steps.specs.MovedLaws.{Moved}
+use Rattle.cache_steps.specs.MovedLaws.{Moved, unmoved}
+use Rattle.words.specs.LinkLaws.{changed-same}
+use native.Mathlib.Omega.{arith}
 
 -- the cache with these settings, the residents and totals of a directory, this front of data and this store
 abbrev pub cacheWith : Settings → List ℕ → List ℕ → List ℕ → Cache
@@ -61,3 +63,12 @@ module _ (m : Memory) (ready : Ready m) (directory bytes store : List ℕ) (kept
           store-same = store-same;
           links = links;
         }
+
+-- a word that changes nothing
+pub idle-carried : (m : Memory) → Ready m → (w : Work) (incoming : List ℕ) (answer : Answer) → Pick (cacheOf m) w 0
+    → entryStep (cacheOf m) (w, 0) incoming ≡ record { after = cacheOf m; answer = answer; given = [] } → Carried m w incoming m answer []
+unfolding view
+idle-carried m ready w incoming answer picked is =
+    carry m ready (m .directory) (m .bytes) (m .store) (record { sound-after = ready .is-sound; settings-kept = refl; past-kept = refl })
+    (unmoved _ (m .bytes)) refl w incoming answer [] 0 picked is
+    (record { few = λ calm. rw (changed-same (m .directory)) (omega arith); none = λ still. changed-same (m .directory) })

@@ -14,7 +14,7 @@ use Rattle.basics.specs.Basics.{All, if_then_else_, bit}
 use Rattle.basics.specs.Lists.{those}
 use Rattle.basics.specs.TestLaws.{if-yes}
 use Rattle.stack.specs.declared.Marks.{Marks}
-use Rattle.stack.specs.Recency.{unmarked, cleared, due, sawTick, ticked, Resident, marked, remarked}
+use Rattle.stack.specs.Recency.{cleared, due, sawTick, ticked, Resident, marked, remarked}
 use Rattle.stack.specs.Stack.{Work, flush, tick, saved, savedAll}
 use Rattle.stack.specs.PlaceLaws.{all-found}
 use Rattle.stack.specs.MarkLaws.{WritesOut, flush-out, tick-out, chosen-modified}
@@ -67,11 +67,11 @@ changed-none ticks m h e = go ticks
     unseen true h = absurd (subst T e (h tt))
     unseen false h = refl
 
-    same : unmarked ≡ m
-    same = λ i. record { modified = sym e i; seen = sym (unseen (m .seen) h) i }
+    same : cleared m ≡ m
+    same = λ i. record { modified = sym e i; seen = sym (unseen (m .seen) h) i; pinned = m .pinned }
 
     go : (ticks : Bool) → changed ticks m ≡ m
-    go true = ap (λ a. if a && m .seen then unmarked else record { modified = a; seen = a }) e ∙ same
+    go true = ap (λ a. if a && m .seen then cleared m else record { modified = a; seen = a; pinned = m .pinned }) e ∙ same
     go false = same
 
 pub changed-seen : (ticks : Bool) (m : Marks) → m .modified ≡ true → chosen ticks m ≡ false → sawTick m ≡ changed ticks m

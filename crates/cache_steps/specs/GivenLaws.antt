@@ -3,6 +3,7 @@ use Prim.Native.Nat.{ℕ, _*_, _≤_}
 use native.Mathlib.Nat.{zero-mul, one-mul, add-mul}
 use native.Mathlib.Omega.{arith}
 use mathlib.Core.Path.{_≡_, refl, sym, ap, _∙_}
+use mathlib.Core.Bool.{Bool, true, false}
 use mathlib.Core.List.{List}
 use mathlib.Core.Option.{Option, none, some}
 use lib.ListN.{length, take, length-append}
@@ -10,7 +11,7 @@ use lib.Seq.{length-take-le}
 use Rattle.basics.specs.Basics.{All, total}
 use Rattle.settings.specs.declared.Settings.{Settings}
 use Rattle.stack.specs.Recency.{Resident, Place, lookup}
-use Rattle.stack.specs.Stack.{Stack, Work, read, write, purge, flush, tick, invalid, Answer, leaving, savedAll, access, purging, flushing, step}
+use Rattle.stack.specs.Stack.{Stack, Work, read, write, purge, flush, tick, pin, unpin, invalid, Answer, leaving, savedAll, access, purging, pinning, flushing, step}
 use Rattle.stack.specs.Batch.{isRead, howMany}
 use Rattle.stack.specs.Entries.{entryBytes, entryFor, entryStep}
 use Rattle.stack.specs.ForgetLaws.{InStore, length-savedAll}
@@ -21,6 +22,7 @@ use Rattle.cache_steps.specs.Carried.{cacheOf, settingsOf, Ready, Carrie
 use Rattle.cache_steps.specs.MovedLaws.{Stands, leaving-fit, present-length}
 use Rattle.cache_steps.specs.Places.{place-stands}
 use Rattle.cache_steps.specs.Runs.{Chain, end, next}
+use Rattle.stack.specs.StackLaws.{purging-either}
 
 module _ (m : Memory) (ready : Ready m) (pick : ℕ) (incoming : List ℕ) where
   abbrev s : Settings
@@ -44,7 +46,13 @@ module _ (m : Memory) (ready : Ready m) (pick : ℕ) (incoming : List ℕ) where
   purging-gives : (f : ℕ → List ℕ) (keep : Place ℕ → List ℕ → ℕ) (k : Stack ℕ) (b : ℕ) (o : Option (Resident ℕ)) → length (purging f keep k b o .given) ≡ 0
   unfolding purging
   purging-gives f keep k b none = refl
-  purging-gives f keep k b (some x) = refl
+  purging-gives f keep k b (some x) = purging-either f keep (λ t. length (t .given) ≡ 0) k b x (λ t. refl) (λ t. refl)
+
+  pinning-gives : (f : ℕ → List ℕ) (keep : Place ℕ → List ℕ → ℕ) (k : Stack ℕ) (b : ℕ) (on : Bool) (o : Option (Resident ℕ))
+      → length (pinning f keep k b on o .given) ≡ 0
+  unfolding pinning
+  pinning-gives f keep k b on none = refl
+  pinning-gives f keep k b on (some x) = refl
 
   step-gives : (w : Work) → InStore (s .m) w → length (entryStep (cacheOf m) (w, pick) incoming .given) ≡ isRead w * s .b
   unfolding entryStep step access flushing view
@@ -53,6 +61,12 @@ module _ (m : Memory) (ready : Ready m) (pick : ℕ) (incoming : List ℕ) where
   step-gives (purge b) inside = purging-gives (entryBytes (s .b) bytes) (λ q bytes. entryFor pick q) (cacheOf m .stack) b (lookup b (residentsIn (m .directory))) ∙ sym (zero-mul (s .b))
   step-gives flush inside = sym (zero-mul (s .b))
   step-gives tick inside = sym (zero-mul (s .b))
+  step-gives (pin b) inside =
+      pinning-gives (entryBytes (s .b) bytes) (λ q bytes. entryFor pick q) (cacheOf m .stack) b true (lookup b (residentsIn (m .directory)))
+      ∙ sym (zero-mul (s .b))
+  step-gives (unpin b) inside =
+      pinning-gives (entryBytes (s .b) bytes) (λ q bytes. entryFor pick q) (cacheOf m .stack) b false (lookup b (residentsIn (m .directory)))
+      ∙ sym (zero-mul (s .b))
   step-gives invalid inside = sym (zero-mul (s .b))
 
 pub carried-gives : {m m₁ : Memory} {w : Work} {incoming : List ℕ} {a : Answer} {given : List ℕ} → Ready m → InStore (settingsOf m .m) w

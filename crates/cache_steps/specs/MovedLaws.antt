@@ -3,13 +3,13 @@ use Prim.Native.Nat.{ℕ, _+_, _-_, _*_, _≤_, _<_}
 use native.Mathlib.Omega.{arith}
 use mathlib.Core.Path.{_≡_, refl, ap, _∙_}
 use mathlib.Core.List.{List, [], _∷_}
-use lib.ListN.{length, take, drop}
+use lib.ListN.{length, take, drop, length-replicate}
 use Rattle.basics.specs.Basics.{All, if_then_else_, putBlock}
 use Rattle.settings.specs.declared.Settings.{Settings}
 use Rattle.stack.specs.BufferLaws.{block-ends, block-front, length-blockAt, length-putBlock}
-use Rattle.stack.specs.Recency.{Resident, Place, found, unused, replacing}
+use Rattle.stack.specs.Recency.{Resident, Place, found, unused, replacing, allPinned}
 use Rattle.stack.specs.Stack.{leaving, saved, savedAll, present}
-use Rattle.stack.specs.Entries.{entryBytes}
+use Rattle.stack.specs.Entries.{entryBytes, filledAt, PickAt}
 use Rattle.stack.specs.EntriesLaws.{Fit}
 use Rattle.cache_steps.specs.FrontLaws.{block-room, put-front, put-past}
 
@@ -18,12 +18,14 @@ abbrev pub Stands : Settings → Place ℕ → Type 0
 Stands s (found x l) = Fit s x
 Stands s (unused l) = Unit {0}
 Stands s (replacing v l) = Fit s v
+Stands s (allPinned l) = Unit {0}
 
 pub leaving-fit : (s : Settings) (q : Place ℕ) → Stands s q → All (Fit s) (leaving q)
 unfolding leaving
 leaving-fit s (found x l) t = tt
 leaving-fit s (unused l) t = tt
 leaving-fit s (replacing v l) t = (t, tt)
+leaving-fit s (allPinned l) t = tt
 
 -- A buffer that came of another: its front of that size, what follows it, and its length.
 pub record Moved (size : ℕ) (front before after : List ℕ) : Type 0 where
@@ -82,6 +84,7 @@ module _ (s : Settings) (bytes : List ℕ) (long : s .n * s .b ≤ length bytes)
   present-front b store (found x l) t = entry-front (x .held) (t .least) (t .most)
   present-front b store (unused l) t = refl
   present-front b store (replacing v l) t = refl
+  present-front b store (allPinned l) t = refl
 
   module _ (b : ℕ) (inside : b < s .m) (store : List ℕ) (room : s .m * s .b ≤ length store) where
     pub present-length : (q : Place ℕ) → Stands s q → length (present (entryBytes (s .b) bytes) (s .b) b store q) ≡ s .b
@@ -89,3 +92,17 @@ module _ (s : Settings) (bytes : List ℕ) (long : s .n * s .b ≤ length bytes)
     present-length (found x l) t = entry-length (x .held) (t .least) (t .most)
     present-length (unused l) t = length-blockAt B b store (block-room B b (s .m) store inside room)
     present-length (replacing v l) t = length-blockAt B b store (block-room B b (s .m) store inside room)
+    present-length (allPinned l) t = length-replicate (s .b) 0
+
+  -- ---- the bytes put where the block then stands; none where it is refused
+
+  pub filled-moved : (e : ℕ) (q : Place ℕ) → Stands s q → PickAt (s .n) e q → (put : List ℕ) → length put ≡ s .b
+      → Moved (s .n * s .b) (filledAt (s .b) e q put (take (s .n * s .b) bytes)) bytes (filledAt (s .b) e q put bytes)
+  unfolding filledAt
+  filled-moved e (found x l) t free put sized =
+      let h = t .least in let g = t .most in put-moved B (x .held - 1) (s .n) bytes (omega arith) long put sized
+  filled-moved e (unused l) t free put sized =
+      let h = free .least in let g = free .most in put-moved B (e - 1) (s .n) bytes (omega arith) long put sized
+  filled-moved e (replacing v l) t free put sized =
+      let h = t .least in let g = t .most in put-moved B (v .held - 1) (s .n) bytes (omega arith) long put sized
+  filled-moved e (allPinned l) t free put sized = unmoved (s .n * s .b) bytes

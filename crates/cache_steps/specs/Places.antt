@@ -10,7 +10,7 @@ use Rattle.basics.specs.AllLaws.{all-map}
 use Rattle.settings.specs.declared.Settings.{Settings}
 use Rattle.settings.specs.NumbersLaws.{old-fits}
 use Rattle.stack.specs.Recency.{Resident, Place}
-use Rattle.stack.specs.PlaceLaws.{Placed, hits, enters, replaces, placed, all-found}
+use Rattle.stack.specs.PlaceLaws.{Placed, hits, enters, replaces, refusing, placed, all-found}
 use Rattle.stack.specs.EntriesLaws.{Fit}
 use Rattle.layout.specs.Sound.{settingsIn, sound, order, residentAt, residentsIn}
 use Rattle.layout.specs.SoundLaws.{sound-legal, sound-residents}
@@ -28,13 +28,15 @@ module _ (d : List ℕ) (ok : T (sound d)) (b : ℕ) where
   placed-in =
       let legal = sound-legal d ok in
       let r = sound-residents d ok in
-      placed s (residentsIn d) (legal .some-old) (old-fits s legal) (r .few) (all-map (Fit s) _ (residentsIn d) (λ x t. t .legal) (r .fit)) b
+      placed s (residentsIn d) (legal .some-old) (old-fits s legal) (legal .few-chains) (r .few)
+      (all-map (Fit s) _ (residentsIn d) (λ x t. t .legal) (r .fit)) b
 
   stands : (q : Place ℕ) → Placed s (residentsIn d) q → Stands s q
   stands q (hits p x n e legal up) =
       let fit = all-found (Fit s) (residentsIn d) p x (sound-residents d ok .fit) e in record { least = fit .least; most = fit .most; stored = fit .stored; legal = legal }
   stands q (enters h) = tt
-  stands q (replaces v x e full c) = all-found (Fit s) (residentsIn d) v x (sound-residents d ok .fit) e
+  stands q (refusing full all) = tt
+  stands q (replaces v x e full u c) = all-found (Fit s) (residentsIn d) v x (sound-residents d ok .fit) e
 
   pub place-stands : Stands (settingsIn d) (placeOf d b)
   place-stands = stands (placeOf d b) placed-in

@@ -22,7 +22,7 @@ use Rattle.layout.specs.ModifiedWord.{marksIn, isModifiedWord}
 use Rattle.layout.specs.ModifiedWordLaws.{word-bit}
 use Rattle.layout.specs.Sound.{field, sectionsRight, settingsIn, totalsIn, chainRight, bucketRight, stackTests, residentTests, chainTests, sound}
 use Rattle.check_model.specs.Tests.{headOf, tailOf, firstOf, kindsOk, stackOk, unusedOk, fieldsOk, chainsOk, bucketsFrom, numbersTest, totalsTest, markBit, totalOf, listsTest, soundTest}
-use Rattle.check_model.specs.Bools.{same-truth, pick-yes, yes-pick, pick-no, no-pick}
+use Rattle.check_model.specs.Bools.{pick-yes, yes-pick, pick-no, no-pick}
 use Rattle.check_model.specs.Runs.{fieldsOn, fields-run, chainsOn, chains-run}
 use Rattle.check_model.specs.Along.{fw}
 use Rattle.check_model.specs.Stack.{Lists, test-lists, lists-fit, lists-stack, lists-unused, order-is, lists-sound, sound-lists}
@@ -30,6 +30,7 @@ use Rattle.check_model.specs.Fields.{Good, Sections, fields-read, fields
 use Rattle.check_model.specs.Chains.{looseAt, chains-sound, sound-chains}
 use Rattle.check_model.specs.Listing.{buckets-sound, sound-buckets}
 use Rattle.check_model.specs.Kinds.{kinds-same}
+use Rattle.basics.specs.TestLaws.{same-truth}
 
 -- how many of a list are modified, as the definition says it
 abbrev said : List ℕ → List ℕ → ℕ

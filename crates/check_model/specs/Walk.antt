@@ -15,8 +15,9 @@ use Rattle.layout.specs.Addresses.{RESIDENTS, SUM, HEAD, TAIL, NEW-BOUNDARY, OL
 use Rattle.check_model.specs.Turns.{turns, moved}
 use Rattle.check_model.specs.Fields.{less}
 use Rattle.check_model.specs.LoopLaws.{link-low}
-use Rattle.check_model.specs.Bools.{is-true, to-T, same-truth, pick-yes, yes-pick, pick-pick}
+use Rattle.check_model.specs.Bools.{is-true, to-T, pick-yes, yes-pick, pick-pick}
 use Rattle.check_model.specs.Tests.{fld, entryWord, headOf, tailOf, firstOf, linkTest, fieldTest, chainTest, lastAt, noted, endsOk, stackOk, fieldsOk, chainsOk, markBit, sumOf, nthOf, atPosition, totalOf, numbersTest, totalsTest, unusedOk, bucketsFrom, listsTest}
+use Rattle.basics.specs.TestLaws.{same-truth}
 
 -- loops side by side
 

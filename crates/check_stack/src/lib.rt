@@ -157,11 +157,13 @@ fn section_at(new: u32, mid: u32, p: u32) -> u32
     2
 }
 
-// A modified word is modified + 2 × seen, where seen needs modified.
+// A modified word is modified + 2 × seen + 4 × pinned, where seen needs modified: half the word without the pinned mark is at most its
+// lowest bit.
 fn is_modified_word(w: u32) -> bool
     ensures { λ r. ⌜ r ≡ isModifiedWord w ⌝ }
 {
-    w / 2 <= w % 2
+    let unpinned = w - w / layout::PINNED % 2 * layout::PINNED;
+    unpinned / 2 <= unpinned % 2
 }
 
 // The numbers of the resident at position p are right.

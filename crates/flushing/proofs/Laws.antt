@@ -13,7 +13,7 @@ use Rattle.layout.specs.Sound.{residentAt, residentsIn}
 use Rattle.layout.specs.SoundLaws.{sound-legal, sound-residents}
 use Rattle.promises.specs.DirectoryPromises.{Cleaned, TickSeen, entryAt, NextOf}
 use Rattle.promises.specs.Demand3.{Memory}
-use Rattle.promises.specs.DirectoryReady.{CleanReady}
+use Rattle.promises.specs.DirectoryReady.{ModifiedReady}
 use Rattle.cache_steps.specs.Carried.{settingsOf, memory, Ready}
 use Rattle.cache_steps.specs.Places.{at-entry, resident-fit, resident-entry, resident-block}
 use Rattle.cache_steps.specs.FlushLists.{chosen, passed, chosen-set}
@@ -69,7 +69,7 @@ module _ (m : Memory) (size e : ℕ) (r : EntryReady m size e) where
   pub block-room : (block : ℕ) → block ≡ residentAt (m .directory) e .block → block * size + size ≤ length (m .store)
   block-room block b = rw (r .size-is, b, ← here-is (m .directory) (r .position) e h) (resident-block m (r .ready) (r .position) (h .here))
 
-  pub clean-ready : (marks : Marks) → marks ≡ residentAt (m .directory) e .marks → marks .modified ≡ true → CleanReady (m .directory) e
+  pub clean-ready : (marks : Marks) → marks ≡ residentAt (m .directory) e .marks → marks .modified ≡ true → ModifiedReady (m .directory) e
   clean-ready marks is set =
       record {
         is-sound = r .ready .is-sound;
@@ -81,7 +81,7 @@ module _ (m : Memory) (size e : ℕ) (r : EntryReady m size e) where
       }
 
   pub out-ready : (ticks : Bool) (marks : Marks) → marks ≡ residentAt (m .directory) e .marks → chosen ticks marks ≡ true
-      → CleanReady (m .directory) e
+      → ModifiedReady (m .directory) e
   out-ready ticks marks is out = clean-ready marks is (chosen-set ticks marks out)
 
 -- ---- one resident passed, with its marks

@@ -1,5 +1,5 @@
-// Flush and tick: residents are written out, one block out each, and their marks are cleared. A flush writes out every modified
-// resident, a tick those that have already seen one; every other modified one has then seen it. Order and counts stay.
+// Flush and tick: residents are written out, one block out each, and their modified and seen marks are cleared. A flush writes out every
+// modified resident, a tick those that have already seen one; every other modified one has then seen it. Order, counts and pins stay.
 use stack::Marks;
 ghost use mathlib.Core.Path.{_≡_};
 ghost use mathlib.Core.List.{List, []};

@@ -85,8 +85,8 @@ module _ (ws : List ℕ) where
   sectionsRight p [] = true
   sectionsRight p (e ∷ es) = eqb (field SECTION e) (section settingsIn p) && sectionsRight (suc p) es
 
-  -- Resident blocks differ and are below M; counts are 1 to 65,535, the modified word is 0, 1 or 3; sum, sections and words 11, 12,
-  -- 14 and 15 are as defined; sum at most Amax × N.
+  -- Resident blocks differ and are below M; counts are 1 to 65,535, the modified word is 0, 1, 3, 4, 5 or 7; sum, sections and words
+  -- 11, 12, 14 and 15 are as defined; sum at most Amax × N.
   unfoldable pub residentTests : List Bool
   unfolding order sectionsRight all distinct total isModifiedWord field settingsIn val
   residentTests =

@@ -170,6 +170,7 @@ module _ (ws : List ℕ) (h : T (sound ws)) where
       record {
         some-old = sound-legal .some-old;
         old-fits = old-fits s sound-legal;
+        few-chains = sound-legal .few-chains;
         some-average = sound-legal .some-average;
         few = sound-residents .few;
         legal = legal-of (order ws) (sound-residents .fit);

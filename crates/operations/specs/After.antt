@@ -15,7 +15,7 @@ use Rattle.links.specs.Off.{Off}
 use Rattle.links.specs.All.{all-off}
 use Rattle.settings.specs.declared.Settings.{Settings}
 use Rattle.stack.specs.Counts.{isNew, victim}
-use Rattle.stack.specs.Recency.{Resident, unmarked, askedMarks, counts, counted, raise, halve, place, asked, removed}
+use Rattle.stack.specs.Recency.{Resident, unmarked, askedMarks, counts, counted, raise, halve, place, asked, removed, countsPins}
 use Rattle.layout.specs.Addresses.{BLOCK, COUNT, SECTION, MODIFIED, TO-HEAD}
 use Rattle.layout.specs.ModifiedWord.{marksIn}
 use Rattle.linkage.specs.Fields.{Shape, Fields}
@@ -153,7 +153,8 @@ module _ (t : Settings) (s : Shape) (D : Fields) (residents : List ℕ) (e : ℕ
       ∙ sym (ap (asked n written e) (place-unused t D n residents (missing s D residents (e ∷ unused) n g absent) (omega (arith, g .stack .whole, of .blocks-is))))
 
 module _ (t : Settings) (s : Shape) (D : Fields) (above : List ℕ) (e : ℕ) (below unused : List ℕ) (n : ℕ) (of : Of t s) (absent : NoneHas s D n) (g : WellLinked s D (above ++ (e ∷ below)) unused) where
-  pub replace-residents : length (above ++ (e ∷ below)) ≡ s .N → length above ≡ victim t (counts (residentsOf D (above ++ (e ∷ below)))) → (q : ℕ) (written : Bool)
+  pub replace-residents : length (above ++ (e ∷ below)) ≡ s .N → length above ≡ victim t (countsPins (residentsOf D (above ++ (e ∷ below))))
+      → (q : ℕ) (written : Bool)
       → residentsOf (replaceD s D e q n (bit written)) (e ∷ (above ++ below)) ≡ asked n written e (place t n (residentsOf D (above ++ (e ∷ below))))
   unfolding asked
   replace-residents full v q written =

@@ -1,5 +1,5 @@
--- The marks of a modified resident change, and no link word: cleared once its bytes were written out, with one block out counted; or a
--- tick seen. Assumes nothing.
+-- The marks of a resident change, and no link word: cleared once its bytes were written out, with one block out counted; a tick seen;
+-- pinned or unpinned. Assumes nothing.
 use Prim.Native.Nat.{ℕ, zero, suc, _+_, _*_, _%_, _≤_, _<_}
 use mathlib.Core.Path.{_≡_, refl, _∙_, sym, ap, ap₂}
 use mathlib.Core.Bool.{Bool, true, false}
@@ -12,22 +12,22 @@ use borrow.Author.Tests.{eqb-true}
 use Rattle.basics.specs.Basics.{All, pick, if_then_else_}
 use Rattle.basics.specs.Basics as basics
 use Rattle.links.specs.Upd.{upd}
-use Rattle.words.specs.Words.{setNumber}
+use Rattle.words.specs.Words.{setNumber, val}
 use Rattle.words.specs.LinkLaws.{Within, within-none, within-then}
 use Rattle.stack.specs.declared.Marks.{Marks}
-use Rattle.stack.specs.Recency.{cleared, sawTick, Resident, remarked, counts}
+use Rattle.stack.specs.Recency.{cleared, sawTick, Resident, remarked, counts, pinnedAs}
 use Rattle.layout.specs.Addresses.{COUNT, MODIFIED, READS, WRITES, INS, OUTS}
 use Rattle.layout.specs.ModifiedWord.{marksIn, isModifiedWord}
 use Rattle.layout.specs.Sound.{settingsIn, totalsIn, sound, residentsIn, view}
 use Rattle.layout.specs.SoundLaws.{sound-kept}
-use Rattle.promises.specs.DirectoryPromises.{markedAt, moreOuts, Marked, Cleaned, TickSeen}
-use Rattle.linkage.specs.Fields.{Shape, base, Fields, put, entry, header, inHeader}
+use Rattle.promises.specs.DirectoryPromises.{markedAt, moreOuts, Marked, Cleaned, TickSeen, Pinned}
+use Rattle.linkage.specs.Fields.{Shape, base, Fields, put, entry, header, inHeader, view-get}
 use Rattle.linkage.specs.WellLinked.{Entry, Sum, total}
 use Rattle.linkage.specs.WellLinkedLaws.{sum-bits}
 use Rattle.linkage.specs.WordFields.{shape}
 use Rattle.word_ops.specs.Lists.{wordOf}
 use Rattle.word_ops.specs.Clean.{cleaned as cleanedWords}
-use Rattle.word_ops.specs.Mark.{DUE-WORD, tickSeen}
+use Rattle.word_ops.specs.Mark.{tickSeen, withoutWrite, withSeen, withPin, pinSet}
 use Rattle.operations.specs.Directory.{Directory}
 use Rattle.operations.specs.Stores.{view-number}
 use Rattle.operations.specs.Enter.{flags-mark}
@@ -36,7 +36,7 @@ use Rattle.operations.specs.Residents.{resident, residentsOf, alive}
 use Rattle.operations.specs.Counted.{totalsOf, same-totals}
 use Rattle.operations.specs.BoundParts.{marked-from}
 use Rattle.operations.specs.Bounds.{outs-within}
-use Rattle.operations.specs.MarkLaws.{word-small, none-word, seen-word, cleared-says, seen-says}
+use Rattle.operations.specs.MarkLaws.{word-small, seen-word, cleared-says, seen-says, cleared-word, pinned-word, pinned-says, pinned-bit}
 use Rattle.operations.specs.Stands.{Given, Stands}
 use Rattle.operations.specs.SoundWords.{stands-of-sound, read-off}
 
@@ -69,16 +69,24 @@ module _ (s : Shape) (w : List ℕ) (D : Fields) (residents unused : List ℕ) (
   remarked-within : (v : ℕ) → Within 0 w (setNumber w (wordOf (base s) e MODIFIED) v)
   remarked-within v = marked-from s w D (g .view) e here 0 w v (within-none w)
 
+  pub word-is : val w (wordOf (base s) e MODIFIED) ≡ D MODIFIED e
+  word-is = view-get s w D (g .view) MODIFIED e (wordOf (base s) e MODIFIED) (entry (omega arith) (here .0) (here .1) refl)
+
+  pub word-e : T (isModifiedWord (D MODIFIED e))
+  word-e = g .linked .flags .bits e here
+
   module _ (marked-e : D MODIFIED e % 2 ≡ 1) where
     abbrev E : Fields
-    E = put D MODIFIED e 0
+    E = put D MODIFIED e (withoutWrite (D MODIFIED e))
 
-    unmarked : Directory s (setNumber w (wordOf (base s) e MODIFIED) 0) E residents unused
-    unmarked = remarked-sound 0 none-word (omega arith)
+    unmarked : Directory s (setNumber w (wordOf (base s) e MODIFIED) (withoutWrite (D MODIFIED e))) E residents unused
+    unmarked = remarked-sound (withoutWrite (D MODIFIED e)) (cleared-word (D MODIFIED e) word-e) (omega arith)
 
     -- a mark less than there was
-    out-room : total D (inHeader OUTS) + 1 + Sum (s .N) (λ x. upd (D MODIFIED) e 0 x % 2) ≤ total D (inHeader WRITES)
-    out-room = omega (arith, sum-bits (s .N) (D MODIFIED) e 0 (here .0) (here .1), marked-e, g .linked .flags .out-written)
+    out-room : total D (inHeader OUTS) + 1 + Sum (s .N) (λ x. upd (D MODIFIED) e (withoutWrite (D MODIFIED e)) x % 2) ≤ total D (inHeader WRITES)
+    out-room =
+        let none : withoutWrite (D MODIFIED e) % 2 ≡ 0 = omega arith in
+        omega (arith, sum-bits (s .N) (D MODIFIED) e (withoutWrite (D MODIFIED e)) (here .0) (here .1), marked-e, g .linked .flags .out-written)
 
     small : (i : ℕ) → (15 < i) × (i < 24) → D (inHeader i) 0 < 268435456
     small i h = g .view .small (inHeader i) 0 i (header refl refl (h .1) (omega arith) (omega arith))
@@ -86,12 +94,16 @@ module _ (s : Shape) (w : List ℕ) (D : Fields) (residents unused : List ℕ) (
     pub clean-sound : Directory s (cleanedWords w (base s) e) (raiseTotal E OUTS) residents unused
     unfolding cleanedWords
     clean-sound =
-        out-sound s (setNumber w (wordOf (base s) e MODIFIED) 0) E residents unused unmarked
-        (omega (arith, out-room, small WRITES (omega arith), small (WRITES + 1) (omega arith))) out-room
+        rw word-is
+        (out-sound s (setNumber w (wordOf (base s) e MODIFIED) (withoutWrite (D MODIFIED e))) E residents unused unmarked
+        (omega (arith, out-room, small WRITES (omega arith), small (WRITES + 1) (omega arith))) out-room)
 
     clean-within : Within 0 w (cleanedWords w (base s) e)
     unfolding cleanedWords
-    clean-within = within-then 0 0 w _ _ (remarked-within 0) (outs-within s (setNumber w (wordOf (base s) e MODIFIED) 0) E (unmarked .view))
+    clean-within =
+        rw word-is
+        (within-then 0 0 w _ _ (remarked-within (withoutWrite (D MODIFIED e)))
+        (outs-within s (setNumber w (wordOf (base s) e MODIFIED) (withoutWrite (D MODIFIED e))) E (unmarked .view)))
 
 -- ---- the residents then
 
@@ -121,10 +133,9 @@ at-position D P [] p x q a = let z : _≡_ {A = ℕ} 0 1 = cc in absurd (omega a
 at-position D P (e ∷ order) zero x q a = let r : resident D e ≡ x = cc in (rw (← r) (a .0), rw (← r) refl)
 at-position D P (e ∷ order) (suc p) x q a = at-position D P order p x q (a .1)
 
--- ---- the resident at a position, which is modified
+-- ---- the resident at a position
 
-module _ (w : List ℕ) (h : T (sound w)) (p : ℕ) (x : Resident ℕ) (q : getElem? (residentsIn w) p ≡ some x)
-    (modified : x .marks .modified ≡ true) where
+module _ (w : List ℕ) (h : T (sound w)) (p : ℕ) (x : Resident ℕ) (q : getElem? (residentsIn w) p ≡ some x) where
   g : Stands (settingsIn w) (shape w) w (residentsIn w) (totalsIn w)
   g = stands-of-sound w h
 
@@ -139,16 +150,15 @@ module _ (w : List ℕ) (h : T (sound w)) (p : ℕ) (x : Resident ℕ) (q : getE
       at-position D (λ y. Entry (shape w) y × (1 ≤ D COUNT y)) (g .order) p x (ap (λ l. getElem? l p) (g .seen) ∙ q)
       (alive (shape w) D (g .order) (g .unused) (g .directory .linked))
 
-  says : marksIn (D MODIFIED e) .modified ≡ true
-  says = sym (ap (λ (y : Resident ℕ). y .marks .modified) (at .1)) ∙ modified
-
-  bit-e : D MODIFIED e % 2 ≡ 1
-  unfolding marksIn
-  bit-e = eqb-true (D MODIFIED e % 2) 1 says
-
   sums : basics.total (counts (residentsIn w)) ≤ settingsIn w .amax * settingsIn w .n
   unfolding view
   sums = sound-kept w h [] .sums
+
+  word-here : val w (wordOf (base (shape w)) e MODIFIED) ≡ D MODIFIED e
+  word-here = word-is (shape w) w D (g .order) (g .unused) e (at .0 .0) (at .0 .1) (g .directory)
+
+  sound-here : T (isModifiedWord (D MODIFIED e))
+  sound-here = word-e (shape w) w D (g .order) (g .unused) e (at .0 .0) (at .0 .1) (g .directory)
 
   -- words in which e alone has another modified word, with so many blocks out more
   marked-of : (change : Marks → Marks) (outs v : ℕ) (u : List ℕ) (E : Fields) → Directory (shape w) u E (g .order) (g .unused)
@@ -170,21 +180,43 @@ module _ (w : List ℕ) (h : T (sound w)) (p : ℕ) (x : Resident ℕ) (q : getE
       let a = read-off w h u (markedAt change e (residentsIn w)) (moreOuts outs (totalsIn w)) after few in
       record { kept = a .kept; residents = a .residents-are; totals = a .totals-are; links-none = omega (arith, near .links) }
 
-  -- CLEANED
-  pub clean-cleaned : Cleaned w (x .held) (cleanedWords w (base (shape w)) (x .held))
-  clean-cleaned =
-      marked-of cleared 1 0 (cleanedWords w (base (shape w)) e) (raiseTotal (put D MODIFIED e 0) OUTS)
-      (clean-sound (shape w) w D (g .order) (g .unused) e (at .0 .0) (at .0 .1) (g .directory) bit-e) refl (cleared-says (marksIn (D MODIFIED e)))
-      (same-totals _ _ _ _ _ _ _ _ refl refl refl (out-total (put D MODIFIED e 0)))
-      (record { average = g .given .average; bytes = g .given .bytes })
-      (clean-within (shape w) w D (g .order) (g .unused) e (at .0 .0) (at .0 .1) (g .directory) bit-e)
-
-  -- A TICK SEEN
-  pub tick-seen : TickSeen w (x .held) (tickSeen w (base (shape w)) (x .held))
-  unfolding tickSeen
-  tick-seen =
-      marked-of sawTick 0 DUE-WORD (tickSeen w (base (shape w)) e) (put D MODIFIED e DUE-WORD)
-      (remarked-sound (shape w) w D (g .order) (g .unused) e (at .0 .0) (at .0 .1) (g .directory) DUE-WORD seen-word (omega (arith, bit-e))) refl
-      (seen-says (marksIn (D MODIFIED e)) says)
+  -- by one store of a word that says modified only where the one before did
+  stored : (change : Marks → Marks) (v : ℕ) → T (isModifiedWord v) → v % 2 ≤ D MODIFIED e % 2 → marksIn v ≡ change (marksIn (D MODIFIED e))
+      → Marked change 0 w e (setNumber w (wordOf (base (shape w)) e MODIFIED) v)
+  stored change v ok room new =
+      marked-of change 0 v (setNumber w (wordOf (base (shape w)) e MODIFIED) v) (put D MODIFIED e v)
+      (remarked-sound (shape w) w D (g .order) (g .unused) e (at .0 .0) (at .0 .1) (g .directory) v ok room) refl new
       (same-totals _ _ _ _ _ _ _ _ refl refl refl (omega arith)) (record { average = g .given .average; bytes = g .given .bytes })
-      (remarked-within (shape w) w D (g .order) (g .unused) e (at .0 .0) (at .0 .1) (g .directory) DUE-WORD)
+      (remarked-within (shape w) w D (g .order) (g .unused) e (at .0 .0) (at .0 .1) (g .directory) v)
+
+  -- PINNED OR UNPINNED
+  pub pin-pinned : (on : Bool) → Pinned on w (x .held) (pinSet w (base (shape w)) (x .held) on)
+  unfolding pinSet
+  pin-pinned on =
+      rw word-here
+      (stored (pinnedAs on) (withPin on (D MODIFIED e)) (pinned-word on (D MODIFIED e) sound-here) (omega (arith, pinned-bit on (D MODIFIED e)))
+      (pinned-says on (D MODIFIED e)))
+
+  -- ---- which is modified
+
+  module _ (modified : x .marks .modified ≡ true) where
+    bit-e : D MODIFIED e % 2 ≡ 1
+    unfolding marksIn
+    bit-e = eqb-true (D MODIFIED e % 2) 1 (sym (ap (λ (y : Resident ℕ). y .marks .modified) (at .1)) ∙ modified)
+
+    -- CLEANED
+    pub clean-cleaned : Cleaned w (x .held) (cleanedWords w (base (shape w)) (x .held))
+    clean-cleaned =
+        let v : ℕ = withoutWrite (D MODIFIED e) in
+        marked-of cleared 1 v (cleanedWords w (base (shape w)) e) (raiseTotal (put D MODIFIED e v) OUTS)
+        (clean-sound (shape w) w D (g .order) (g .unused) e (at .0 .0) (at .0 .1) (g .directory) bit-e) refl (cleared-says (D MODIFIED e))
+        (same-totals _ _ _ _ _ _ _ _ refl refl refl (out-total (put D MODIFIED e v)))
+        (record { average = g .given .average; bytes = g .given .bytes })
+        (clean-within (shape w) w D (g .order) (g .unused) e (at .0 .0) (at .0 .1) (g .directory) bit-e)
+
+    -- A TICK SEEN
+    pub tick-seen : TickSeen w (x .held) (tickSeen w (base (shape w)) (x .held))
+    unfolding tickSeen
+    tick-seen =
+        rw word-here
+        (stored sawTick (withSeen (D MODIFIED e)) (seen-word (D MODIFIED e) sound-here) (omega (arith, bit-e)) (seen-says (D MODIFIED e) bit-e))

@@ -6,8 +6,8 @@ use mathlib.Core.List.{List}
 use native.Mathlib.Omega.{arith}
 use Rattle.basics.specs.Basics.{bit}
 use Rattle.basics.specs.Basics as basics
-use Rattle.stack.specs.Recency.{Resident, Place, found, unused, replacing}
-use Rattle.stack.specs.Stack.{Totals, accessTotals, misses, leaving, modifiedCount}
+use Rattle.stack.specs.Recency.{Resident, Place, found, unused, replacing, allPinned}
+use Rattle.stack.specs.Stack.{Totals, accessTotals, entering, leaving, modifiedCount}
 use Rattle.layout.specs.Addresses.{READS}
 pub use Rattle.linkage.specs.Return.{totalsOf}
 use Rattle.linkage.specs.Fields.{Fields}
@@ -29,20 +29,26 @@ same-totals a b c d a′ b′ c′ d′ p q r o = λ i. record { reads = p i; wr
 -- ---- by the place
 
 pub after-found : (written : Bool) (x : Resident ℕ) (l : List (Resident ℕ)) (t : Totals) → raisedBy t (bit (not written)) (bit written) 0 0 ≡ totalsAfter written (found x l) t
-unfolding misses leaving modifiedCount basics.total
+unfolding entering leaving modifiedCount basics.total
 after-found true x l t = refl
 after-found false x l t = refl
 
 pub after-unused : (written : Bool) (l : List (Resident ℕ)) (t : Totals) → raisedBy t (bit (not written)) (bit written) (bit (not written)) 0 ≡ totalsAfter written (unused l) t
-unfolding misses leaving modifiedCount basics.total
+unfolding entering leaving modifiedCount basics.total
 after-unused true l t = refl
 after-unused false l t = refl
 
 pub after-replacing : (written : Bool) (v : Resident ℕ) (l : List (Resident ℕ)) (t : Totals)
     → raisedBy t (bit (not written)) (bit written) (bit (not written)) (bit (v .marks .modified)) ≡ totalsAfter written (replacing v l) t
-unfolding misses leaving modifiedCount basics.total
+unfolding entering leaving modifiedCount basics.total
 after-replacing true v l t = same-totals _ _ _ _ _ _ _ _ refl refl refl (omega arith)
 after-replacing false v l t = same-totals _ _ _ _ _ _ _ _ refl refl refl (omega arith)
+
+pub after-refused : (written : Bool) (l : List (Resident ℕ)) (t : Totals)
+    → raisedBy t (bit (not written)) (bit written) 0 0 ≡ totalsAfter written (allPinned l) t
+unfolding entering leaving modifiedCount basics.total
+after-refused true l t = refl
+after-refused false l t = refl
 
 -- ---- in the fields
 

@@ -11,7 +11,7 @@ use Rattle.links.specs.All.{all-here}
 use Rattle.words.specs.Words.{val}
 use Rattle.settings.specs.declared.Settings.{Settings}
 use Rattle.stack.specs.Counts.{victim}
-use Rattle.stack.specs.Recency.{Place, counts, place, asked}
+use Rattle.stack.specs.Recency.{Place, countsPins, place, asked}
 use Rattle.stack.specs.Stack.{Totals}
 use Rattle.layout.specs.Addresses.{SUM, BLOCK, COUNT, MODIFIED}
 use Rattle.layout.specs.ModifiedWord.{marksIn}
@@ -31,7 +31,7 @@ use Rattle.operations.specs.Miss.{missD, outIf, Countable, enteredFor, r
 use Rattle.operations.specs.Residents.{Of, resident, residentsOf, alive}
 use Rattle.operations.specs.Places.{missing, place-unused, place-replacing}
 use Rattle.operations.specs.Lookup.{Told, find-is}
-use Rattle.operations.specs.Victim.{Chosen}
+use Rattle.operations.specs.VictimWords.{Chosen}
 use Rattle.operations.specs.After.{enter-residents, replace-residents}
 use Rattle.operations.specs.Counted.{totalsOf, raisedBy, same-totals, totalsAfter, after-unused, after-replacing, miss-totals, out-totals}
 use Rattle.operations.specs.Stands.{Given, Stands}
@@ -97,7 +97,7 @@ module _ (t : Settings) (s : Shape) (of : Of t s) (w : List ℕ) (D : Fields) (s
   -- ---- there is a victim
 
   module _ (above : List ℕ) (e : ℕ) (below unused : List ℕ) (absent : NoneHas s D block) (g : Directory s w D (above ++ (e ∷ below)) unused) (full : length (above ++ (e ∷ below)) ≡ s .N)
-      (chosen : length above ≡ victim t (counts (residentsOf D (above ++ (e ∷ below))))) where
+      (chosen : length above ≡ victim t (countsPins (residentsOf D (above ++ (e ∷ below))))) where
     abbrev residents : List ℕ
     residents = above ++ (e ∷ below)
 
@@ -142,7 +142,9 @@ module _ (t : Settings) (s : Shape) (of : Of t s) (w : List ℕ) (D : Fields) (s
           given = out-given (isMarked (D MODIFIED e)) E (record { average = given .average; bytes = given .bytes });
         }
 
-  replace-at : (residents above : List ℕ) (e : ℕ) (below unused : List ℕ) (written : Bool) → residents ≡ above ++ (e ∷ below) → NoneHas s D block → Directory s w D residents unused → length residents ≡ s .N → length above ≡ victim t (counts (residentsOf D residents)) → After residents e written (outCounted (D MODIFIED e) (replacedFor s w (D BLOCK e) e block written))
+  replace-at : (residents above : List ℕ) (e : ℕ) (below unused : List ℕ) (written : Bool) → residents ≡ above ++ (e ∷ below) → NoneHas s D block
+      → Directory s w D residents unused → length residents ≡ s .N → length above ≡ victim t (countsPins (residentsOf D residents))
+      → After residents e written (outCounted (D MODIFIED e) (replacedFor s w (D BLOCK e) e block written))
   replace-at residents above e below unused written q absent g full chosen =
       rw q (replace-here above e below unused absent (rw q at g) (rw q at full) (rw q at chosen) written)
 

@@ -1,21 +1,22 @@
 -- What asking for a block comes to, in a sound directory. Assumes nothing.
 use Prim.Native.Nat.{ℕ, _≤_, _<_}
-use mathlib.Core.Path.{_≡_, refl, _∙_, sym, ap}
+use mathlib.Core.Path.{_≡_, refl, _∙_, ap}
 use mathlib.Core.List.{List, [], _∷_, _++_, map}
 use mathlib.Core.Option.{none, some}
 use native.Mathlib.Omega.{arith}
 use lib.Dec.{ltb}
 use lib.ListN.{length, getElem?, length-map}
-use borrow.Author.Tests.{lt-ltb, le-ltb}
+use borrow.Author.Tests.{lt-ltb}
 use Rattle.basics.specs.AllLaws.{all-map}
 use Rattle.basics.specs.Basics.{if_then_else_, without}
-use Rattle.basics.specs.TestLaws.{if-yes, if-no}
+use Rattle.basics.specs.TestLaws.{if-yes}
 use Rattle.settings.specs.declared.Settings.{Settings}
 use Rattle.stack.specs.Counts.{isNew, victim}
-use Rattle.stack.specs.Recency.{Resident, found, unused, replacing, counts, raise, replacingAt, foundAt, place, lookup, removed}
+use Rattle.stack.specs.Recency.{Resident, found, unused, replacing, allPinned, countsPins, raise, replacingAt, foundAt, place, lookup, removed}
 use Rattle.layout.specs.Addresses.{BLOCK, COUNT}
 use Rattle.linkage.specs.Fields.{Shape, Fields}
 use Rattle.linkage.specs.WellLinked.{WellLinked, Entry}
+use Rattle.victims.specs.Placed.{found-refused, found-replacing}
 use Rattle.operations.specs.Enter.{NoneHas}
 use Rattle.operations.specs.Residents.{resident, residentsOf, elem-here, elem-none, without-here, Missing, alive, position-here, position-none}
 
@@ -66,16 +67,24 @@ module _ (t : Settings) (D : Fields) (n : ℕ) where
   place-unused residents a h =
       let l = residentsOf D residents in
       let q : length l ≡ length residents = length-map residents (resident D) in
-      place-none residents a ∙ if-yes (ltb (length l) (t .n)) (unused l) (replacingAt (victim t (counts l)) l (getElem? l (victim t (counts l)))) (rw (lt-ltb (length l) (t .n) (omega arith)) tt)
+      place-none residents a
+      ∙ if-yes (ltb (length l) (t .n)) (unused l) (replacingAt (victim t (countsPins l)) l (getElem? l (victim t (countsPins l))))
+      (rw (lt-ltb (length l) (t .n) (omega arith)) tt)
 
-  pub place-replacing : (above : List ℕ) (e : ℕ) (below : List ℕ) → Missing D n (above ++ (e ∷ below)) → length (above ++ (e ∷ below)) ≡ t .n → length above ≡ victim t (counts (residentsOf D (above ++ (e ∷ below))))
+  pub place-replacing : (above : List ℕ) (e : ℕ) (below : List ℕ) → Missing D n (above ++ (e ∷ below)) → length (above ++ (e ∷ below)) ≡ t .n
+      → length above ≡ victim t (countsPins (residentsOf D (above ++ (e ∷ below))))
       → place t n (residentsOf D (above ++ (e ∷ below))) ≡ replacing (resident D e) (residentsOf D (above ++ below))
-  unfolding foundAt replacingAt
   place-replacing above e below a h v =
-      let l = residentsOf D (above ++ (e ∷ below)) in
-      let q : length l ≡ length (above ++ (e ∷ below)) = length-map (above ++ (e ∷ below)) (resident D) in
-      place-none (above ++ (e ∷ below)) a
-      ∙ if-no (ltb (length l) (t .n)) (unused l) (replacingAt (victim t (counts l)) l (getElem? l (victim t (counts l)))) (rw (le-ltb (length l) (t .n) (omega arith)) tt)
-      ∙ ap (λ (p : ℕ). replacingAt p l (getElem? l p)) (sym v)
-      ∙ ap (replacingAt (length above) l) (elem-here (resident D) above e below)
+      let residents = above ++ (e ∷ below) in
+      let l = residentsOf D residents in
+      let q : length l ≡ length residents = length-map residents (resident D) in
+      place-none residents a
+      ∙ found-replacing t (length residents) l (q ∙ h) (length above) (resident D e) v (elem-here (resident D) above e below)
       ∙ ap (replacing (resident D e)) (without-here (resident D) above e below)
+
+  -- every resident is pinned
+  pub place-refused : (residents : List ℕ) → Missing D n residents → length residents ≡ t .n
+      → length residents ≡ victim t (countsPins (residentsOf D residents)) → place t n (residentsOf D residents) ≡ allPinned (residentsOf D residents)
+  place-refused residents a h v =
+      let q : length (residentsOf D residents) ≡ length residents = length-map residents (resident D) in
+      place-none residents a ∙ found-refused t (length residents) (residentsOf D residents) (q ∙ h) (q ∙ v)

@@ -11,16 +11,16 @@ use native.Mathlib.Nat.{mul-le-mul}
 use lib.Dec.{T, ltb}
 use borrow.Author.Tests.{le-ltb}
 use Rattle.basics.specs.Basics.{All, pick}
-use Rattle.basics.specs.Basics as basics
 use Rattle.basics.specs.AllLaws.{all-map, all-image}
+use Rattle.basics.specs.Basics as basics
 use Rattle.links.specs.Off.{Off}
 use Rattle.words.specs.Words.{val}
 use Rattle.words.specs.Links.{linksChanged}
 use Rattle.words.specs.LinkLaws.{Within}
 use Rattle.settings.specs.declared.Settings.{Settings}
 use Rattle.stack.specs.Counts.{chains, exceeds}
-use Rattle.stack.specs.Recency.{Resident, unused, counts, position, settled, lookup, removed}
-use Rattle.stack.specs.Stack.{Answer, hit, entered, replaced, accessTotals, answering}
+use Rattle.stack.specs.Recency.{Resident, unused, counts, position, settled, lookup, removed, allPinned, countsPins, asked}
+use Rattle.stack.specs.Stack.{Answer, hit, entered, replaced, accessTotals, answering, missRefused}
 use Rattle.stack.specs.Entries.{entryFor, PickAt, Unused}
 use Rattle.stack.specs.PlaceLaws.{Placed, placed}
 use Rattle.stack.specs.SumLaws.{sum, asked-sum, replacing-calm, Calm, settled-sum}
@@ -39,18 +39,21 @@ use Rattle.word_ops.specs.Victim.{victimFrom}
 use Rattle.word_ops.specs.Purge.{purged}
 use Rattle.word_ops.specs.Halve.{halved as halvedWords}
 use Rattle.word_ops.specs.Mark.{isMarked}
-use Rattle.word_ops.specs.Totals.{outCounted}
+use Rattle.word_ops.specs.Totals.{outCounted, accessCounted}
+use Rattle.word_ops.specs.declared.Picked.{Picked}
+use Rattle.word_ops.specs.declared.Victim.the-variants.{At as VictimAt, AllPinned}
 use Rattle.layout.specs.declared.Found.{Found}
 use Rattle.layout.specs.declared.Found.the-variants.{At, Absent}
 use Rattle.operations.specs.Directory.{Directory}
 use Rattle.operations.specs.Residents.{Of, resident}
 use Rattle.operations.specs.Stands.{Stands, stands-sum, settledWords, settle-step}
 use Rattle.operations.specs.Miss.{enteredFor, replacedFor}
+use Rattle.operations.specs.Counted.{after-refused}
 use Rattle.operations.specs.Step.{hitFor}
 use Rattle.operations.specs.SoundWords.{of-sound, stands-of-sound, Read, read-off}
-use Rattle.operations.specs.WordSteps.{Room, foundIn, answered, header-is, lookup-word, hit-word, enter-word, replace-word, looked-word, exceeds-word, purge-word}
-use Rattle.operations.specs.WordBounds.{hit-links, enter-links, replace-links, purge-links}
-use Rattle.operations.specs.WordPlaces.{place-found, place-entered, place-replaced}
+use Rattle.operations.specs.WordSteps.{Room, foundIn, answered, header-is, lookup-word, hit-word, enter-word, replace-word, looked-word, exceeds-word, purge-word, refused-word}
+use Rattle.operations.specs.WordBounds.{hit-links, enter-links, replace-links, purge-links, refused-links}
+use Rattle.operations.specs.WordPlaces.{place-found, place-entered, place-replaced, place-bound}
 
 module _ (w : List ℕ) (h : T (sound w)) where
   abbrev t : Settings
@@ -115,7 +118,7 @@ module _ (w : List ℕ) (h : T (sound w)) where
     over-is = exceeds-word t s of u (askedOf w block written e) (accessTotals (totalsIn w) written (placeOf w block)) gu
 
     at : Placed t l (placeOf w block)
-    at = placed t l (kept .some-old) (kept .old-fits) (kept .few) (kept .legal) block
+    at = placed t l (kept .some-old) (kept .old-fits) (kept .few-chains) (kept .few) (kept .legal) block
 
     settled-few : basics.total (counts (settled t (askedOf w block written e))) ≤ t .amax * t .n
     settled-few =
@@ -125,7 +128,8 @@ module _ (w : List ℕ) (h : T (sound w)) where
     after : Read w (settledWords t s u) (settled t (askedOf w block written e)) (accessTotals (totalsIn w) written (placeOf w block))
     after = read-off w h (settledWords t s u) (settled t (askedOf w block written e)) (accessTotals (totalsIn w) written (placeOf w block)) (settle-step t s u (askedOf w block written e) (accessTotals (totalsIn w) written (placeOf w block)) of gu) settled-few
 
-    settled-accessed : (answer : Answer) → answering (chains t (counts l)) over (placeOf w block) ≡ answer → (T (not (halved answer)) → T (not over)) → Accessed k w block written e answer (settledWords t s u)
+    settled-accessed : (answer : Answer) → answering (chains t (countsPins l)) over (placeOf w block) ≡ answer
+        → (T (not (halved answer)) → T (not over)) → Accessed k w block written e answer (settledWords t s u)
     settled-accessed answer told calm =
         record {
           kept = after .kept;
@@ -133,7 +137,7 @@ module _ (w : List ℕ) (h : T (sound w)) where
           entry-free = entry-free;
           residents = after .residents-are;
           totals = after .totals-are;
-          answer-is = ap (λ b. answering (chains t (counts l)) b (placeOf w block)) over-is ∙ told;
+          answer-is = ap (λ b. answering (chains t (countsPins l)) b (placeOf w block)) over-is ∙ told;
           links-few = λ c. few over (calm c);
         }
       where
@@ -194,33 +198,56 @@ module _ (w : List ℕ) (h : T (sound w)) where
 
   -- ---- the victim's entry
 
-  abbrev pub victimEntry : ℕ
-  victimEntry = victimFrom w (base s) (s .cmax) 1 .entry
+  abbrev pub replaceWords : ℕ → ℕ → Bool → List ℕ
+  replaceWords e block written = outCounted (val w (wordOf (base s) e MODIFIED)) (replacedFor s w (val w (wordOf (base s) e BLOCK)) e block written)
 
-  abbrev pub replaceWords : ℕ → Bool → List ℕ
-  replaceWords block written = outCounted (val w (wordOf (base s) victimEntry MODIFIED)) (replacedFor s w (val w (wordOf (base s) victimEntry BLOCK)) victimEntry block written)
+  -- words whose counts' sum is within its limit are left as they are
+  calm-accessed : (k block e : ℕ) (written : Bool) (u : List ℕ)
+      → Stands t s u (askedOf w block written e) (accessTotals (totalsIn w) written (placeOf w block)) → Within k w u
+      → sum (askedOf w block written e) ≤ t .amax * t .n
+      → entryFor e (placeOf w block) ≡ e → PickAt (t .n) e (placeOf w block) → (answer : Answer)
+      → ((b : Bool) → b ≡ false → answering (chains t (countsPins l)) b (placeOf w block) ≡ answer) → Accessed k w block written e answer u
+  calm-accessed k block e written u gu near few entry-is entry-free answer told =
+      let within : overLimit u ≡ false = le-ltb (t .amax * t .n) (val u SUM)
+      (rw (stands-sum t s u (askedOf w block written e) (accessTotals (totalsIn w) written (placeOf w block)) of gu) few) in
+      subst (λ b. Accessed k w block written e answer (pick b (halvedWords u (base s) (s .cmax)) u)) within
+      (settled-accessed k block e written u gu near entry-is entry-free answer (told (overLimit u) within) (λ c. rw within tt))
 
   -- A BLOCK that no resident has REPLACES the victim, where no entry is unused. Counts are not halved: the sum does not rise.
-  pub replace-accessed : (block : ℕ) (written : Bool) → Room w → block < t .m → lookup block l ≡ none → val w UNUSED ≡ 0
-      → Accessed 20 w block written victimEntry
-      (replaced (val w (wordOf (base s) victimEntry BLOCK)) (victimFrom w (base s) (s .cmax) 1 .chains)
-      (isMarked (val w (wordOf (base s) victimEntry MODIFIED))))
-      (replaceWords block written)
+  pub replace-accessed : (block : ℕ) (p : Picked) (written : Bool) → Room w → block < t .m → lookup block l ≡ none → val w UNUSED ≡ 0
+      → victimFrom w (base s) (suc (s .N)) (s .cmax) 1 ≡ VictimAt p
+      → Accessed 20 w block written (p .entry)
+      (replaced (val w (wordOf (base s) (p .entry) BLOCK)) (p .chains) (isMarked (val w (wordOf (base s) (p .entry) MODIFIED))))
+      (replaceWords (p .entry) block written)
   unfolding entryFor answering marksIn settingsIn
-  replace-accessed block written r inside gone none-left =
+  replace-accessed block p written r inside gone none-left v =
+      let e : ℕ = p .entry in
       let here = absent-of block gone in
-      let q = place-replaced t s of w l (totalsIn w) g block (s .N) (omega arith) here none-left in
-      let u = replaceWords block written in
-      let gu = replace-word t s of w l (totalsIn w) g block (s .N) written r inside (omega arith) here none-left in
-      let calm = subst (Calm t l) q (replacing-calm t l (kept .legal) (placeOf w block) (placed t l (kept .some-old) (kept .old-fits) (kept .few) (kept .legal) block)) block written victimEntry in
-      let few : sum (askedOf w block written victimEntry) ≤ t .amax * t .n = rw q (let b = kept .sums in omega arith) in
-      let within : overLimit u ≡ false = le-ltb (t .amax * t .n) (val u SUM) (rw (stands-sum t s u (askedOf w block written victimEntry) (accessTotals (totalsIn w) written (placeOf w block)) of gu) few) in
-      let answer =
-      replaced (val w (wordOf (base s) victimEntry BLOCK)) (victimFrom w (base s) (s .cmax) 1 .chains)
-      (isMarked (val w (wordOf (base s) victimEntry MODIFIED))) in
-      subst (λ b. Accessed 20 w block written victimEntry answer (pick b (halvedWords u (base s) (s .cmax)) u)) within
-      (settled-accessed 20 block victimEntry written u gu (replace-links t s of w l (totalsIn w) g block (s .N) written r inside (omega arith) here none-left)
-      (rw q refl) (rw q tt) answer (rw (q, ← looked-word t s of w l (totalsIn w) g none-left) refl) (λ c. rw within tt))
+      let q = place-replaced t s of w l (totalsIn w) g block (s .N) (suc (s .N)) p (omega arith) (omega arith) here none-left v in
+      let gu = replace-word t s of w l (totalsIn w) g block (s .N) (suc (s .N)) p written r inside (omega arith) (omega arith) here none-left v in
+      let calm = subst (Calm t l) q
+      (replacing-calm t l (kept .legal) (placeOf w block)
+      (placed t l (kept .some-old) (kept .old-fits) (kept .few-chains) (kept .few) (kept .legal) block))
+      block written e in
+      let few : sum (askedOf w block written e) ≤ t .amax * t .n = rw q (let b = kept .sums in omega arith) in
+      calm-accessed 20 block e written (replaceWords e block written) gu
+      (replace-links t s of w l (totalsIn w) g block (s .N) (suc (s .N)) p written r inside (omega arith) (omega arith) here none-left v) few
+      (rw q refl) (rw q tt) (replaced (val w (wordOf (base s) e BLOCK)) (p .chains) (isMarked (val w (wordOf (base s) e MODIFIED))))
+      (λ b z. rw (q, ← looked-word t s of w l (totalsIn w) g (suc (s .N)) p (omega arith) none-left v) refl)
+
+  -- IT IS REFUSED, where all are pinned: the read or the write is counted, and nothing else moves.
+  pub refused-accessed : (block : ℕ) (written : Bool) → Room w → lookup block l ≡ none → val w UNUSED ≡ 0
+      → victimFrom w (base s) (suc (s .N)) (s .cmax) 1 ≡ AllPinned → Accessed 0 w block written 0 missRefused (accessCounted written w)
+  unfolding entryFor answering asked settingsIn
+  refused-accessed block written r gone none-left v =
+      let here = absent-of block gone in
+      let q : placeOf w block ≡ allPinned l = place-bound t s of w l (totalsIn w) g block (s .N) (suc (s .N)) (omega arith) (omega arith) here
+      none-left v in
+      let gu : Stands t s (accessCounted written w) (askedOf w block written 0) (accessTotals (totalsIn w) written (placeOf w block)) =
+      rw (q, ← after-refused written l (totalsIn w)) (refused-word t s of w l (totalsIn w) g written r) in
+      let few : sum (askedOf w block written 0) ≤ t .amax * t .n = rw q (kept .sums) in
+      calm-accessed 0 block 0 written (accessCounted written w) gu (refused-links t s of w l (totalsIn w) g written r) few (rw q refl) (rw q tt)
+      missRefused (λ b z. rw q refl)
 
   -- ---- a purge
 

@@ -1,6 +1,6 @@
 -- What is read off the words of a sound directory one at a time: how many residents there are, whether an entry is unused, what a
--- lookup finds, the residents along the stack. Assumes nothing.
-use Prim.Native.Nat.{ℕ, zero, suc, _+_, _≤_, _<_}
+-- lookup finds, how many entries the search for a victim looks at, the residents along the stack. Assumes nothing.
+use Prim.Native.Nat.{ℕ, zero, suc, _+_, _*_, _≤_, _<_}
 use mathlib.Core.Path.{_≡_, refl, _∙_, sym, ap}
 use mathlib.Core.Logic.{_≢_}
 use mathlib.Core.Option.{some}
@@ -9,6 +9,7 @@ use native.Mathlib.Omega.{arith}
 use lib.Dec.{T}
 use lib.ListN.{length, getD, length-map}
 use Rattle.basics.specs.Basics.{All}
+use Rattle.basics.specs.Lists.{those}
 use Rattle.links.specs.Run.{Run}
 use Rattle.words.specs.Words.{val}
 use Rattle.stack.specs.Recency.{lookup}
@@ -21,8 +22,10 @@ use Rattle.linkage.specs.Fields.{Shape, Fields, base, ends, view-get}
 use Rattle.linkage.specs.WellLinked.{Entry, WellLinked}
 use Rattle.linkage.specs.WordFields.{shape}
 use Rattle.word_ops.specs.Lists.{wordOf}
+use Rattle.victims.specs.Short.{lookedFrom}
 use Rattle.operations.specs.Seen.{address}
 use Rattle.operations.specs.Residents.{resident, residentsOf, alive}
+use Rattle.operations.specs.VictimWords.{search-few}
 use Rattle.operations.specs.Stands.{Stands}
 use Rattle.operations.specs.SoundWords.{of-sound, stands-of-sound}
 use Rattle.operations.specs.WordSteps.{foundIn, answered, header-is, lookup-word}
@@ -70,6 +73,13 @@ module _ (w : List ℕ) (h : T (sound w)) where
       go : (r : Found) → answered s w r ≡ foundResident w r
       go Absent = refl
       go (At e) = refl
+
+  -- A replacement's search, from every sound directory: it looks at Cmax + 1 entries, and at two more for each pinned resident, at most.
+  pub search-bound : lookedFrom w (base s) (suc (s .N)) (s .cmax) 1
+      ≤ settingsIn w .cmax + 1 + 2 * length (those (λ x. x .marks .pinned) (residentsIn w))
+  search-bound =
+      rw (of-sound w h .cmax-is, ← g .seen)
+      (search-few s w D (g .order) (g .unused) (g .directory) (settingsIn w) (of-sound w h) (suc (s .N)) (omega arith))
 
   -- ---- along the stack
 

@@ -18,20 +18,21 @@ use Rattle.linkage.specs.WellLinked.{Entry}
 use Rattle.word_ops.specs.Lists.{wordOf}
 use Rattle.word_ops.specs.Victim.{victimFrom}
 use Rattle.word_ops.specs.Purge.{purged}
-use Rattle.word_ops.specs.Totals.{outCounted}
+use Rattle.word_ops.specs.Totals.{accessCounted, outCounted}
+use Rattle.word_ops.specs.declared.Picked.{Picked}
+use Rattle.word_ops.specs.declared.Victim.the-variants.{At as VictimAt}
 use Rattle.layout.specs.declared.Found.the-variants.{At, Absent}
 use Rattle.operations.specs.Directory.{Directory}
 use Rattle.operations.specs.Seen.{address}
 use Rattle.operations.specs.Enter.{NoneHas}
 use Rattle.operations.specs.Miss.{Countable, enteredFor, replacedFor}
 use Rattle.operations.specs.Bounds.{purge-within}
-use Rattle.operations.specs.MissBounds.{read-hit-within, write-hit-within, enter-miss-within, replace-miss-within}
+use Rattle.operations.specs.MissBounds.{access-within, read-hit-within, write-hit-within, enter-miss-within, replace-miss-within}
 use Rattle.operations.specs.Residents.{Of, alive}
 use Rattle.operations.specs.Lookup.{Holder, Told, find-is}
-use Rattle.operations.specs.VictimWords.{found-victim}
 use Rattle.operations.specs.Stands.{Stands}
 use Rattle.operations.specs.Step.{hitFor}
-use Rattle.operations.specs.WordSteps.{Room, foundIn, header-is, small, countable, full-word}
+use Rattle.operations.specs.WordSteps.{Room, foundIn, header-is, small, countable, chosen-word}
 
 entry-of : (s : Shape) (D : Fields) (residents above : List ℕ) (e : ℕ) (below : List ℕ) → residents ≡ above ++ (e ∷ below) → All (λ x. Entry s x × (1 ≤ D COUNT x)) residents → Entry s e
 entry-of s D residents above e below q a = all-here (λ x. Entry s x × (1 ≤ D COUNT x)) above e below (rw q at a) .0
@@ -63,15 +64,20 @@ module _ (t : Settings) (s : Shape) (of : Of t s) (w : List ℕ) (l : List (Resi
       go [] d = absurd (left (header-is t s of w l totals g UNUSED (omega arith) (omega arith) (omega arith) ∙ d .linked .stack .free .fwd))
       go (e ∷ ys) d = enter-miss-within s w D (g .order) e ys block written (countable t s of w l totals g r) d
 
-  pub replace-links : (block links : ℕ) (written : Bool) → Room w → block < s .M → s .N ≤ links → foundIn s w links block ≡ Absent → val w UNUSED ≡ 0
-      → let e : ℕ = victimFrom w (base s) (s .cmax) 1 .entry in
+  pub replace-links : (block links reach : ℕ) (p : Picked) (written : Bool) → Room w → block < s .M → s .N ≤ links → s .N ≤ reach
+      → foundIn s w links block ≡ Absent → val w UNUSED ≡ 0 → victimFrom w (base s) reach (s .cmax) 1 ≡ VictimAt p
+      → let e : ℕ = p .entry in
       Within 20 w (outCounted (val w (wordOf (base s) e MODIFIED)) (replacedFor s w (val w (wordOf (base s) e BLOCK)) e block written))
-  replace-links block links written r room budget q z =
-      let e : ℕ = victimFrom w (base s) (s .cmax) 1 .entry in
-      let k = found-victim s w D (g .order) (g .unused) (g .directory) t of (full-word t s of w l totals g z) in
+  replace-links block links reach p written r room budget enough q z v =
+      let e : ℕ = p .entry in
+      let k = chosen-word t s of w l totals g reach p enough z v in
       let he : Entry s e = entry-of s D (g .order) (k .before) e (k .behind) (k .whole) (alive s D (g .order) (g .unused) (g .directory .linked)) in
       rw (view-get s w D (g .directory .view) MODIFIED e (wordOf (base s) e MODIFIED) (address s MODIFIED e (wordOf (base s) e MODIFIED) (omega arith) he refl), view-get s w D (g .directory .view) BLOCK e (wordOf (base s) e BLOCK) (address s BLOCK e (wordOf (base s) e BLOCK) (omega arith) he refl))
       (replace-at s w D (g .order) (k .before) e (k .behind) (g .unused) block written (k .whole) (countable t s of w l totals g r) (small t s of w l totals g r) room (subst (Told s D block (g .order)) q (told block links budget)) (g .directory))
+
+  -- A REFUSAL
+  pub refused-links : (written : Bool) → Room w → Within 0 w (accessCounted written w)
+  refused-links written r = access-within s w D (g .order) (g .unused) (countable t s of w l totals g r) (g .directory) written
 
   pub purge-links : (block links e : ℕ) → s .N ≤ links → foundIn s w links block ≡ At e → Within 15 w (purged w (base s) (s .cmax) (suc (s .N)) (24 + 2 * s .cmax + s .hash block) e)
   purge-links block links e budget q = purge-within s w D (g .directory .view) (suc (s .N)) (24 + 2 * s .cmax + s .hash block) e (here block links e budget q)

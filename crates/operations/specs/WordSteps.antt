@@ -2,18 +2,18 @@
 -- Assumes nothing.
 use Prim.Native.Nat.{ℕ, suc, _+_, _*_, _≤_, _<_, _-_, _^_}
 use mathlib.Core.Path.{_≡_, refl, _∙_, sym, ap, subst}
-use mathlib.Core.Bool.{Bool}
+use mathlib.Core.Bool.{Bool, true, false, not}
 use mathlib.Core.List.{List, [], _∷_, _++_}
 use mathlib.Core.Option.{Option, none, some}
 use native.Mathlib.Omega.{arith}
 use lib.Dec.{ltb}
 use lib.ListN.{length}
 use Rattle.links.specs.All.{all-here}
-use Rattle.basics.specs.Basics.{All}
+use Rattle.basics.specs.Basics.{All, bit}
 use Rattle.words.specs.Words.{val}
 use Rattle.settings.specs.declared.Settings.{Settings}
 use Rattle.stack.specs.Counts.{chains, exceeds}
-use Rattle.stack.specs.Recency.{Resident, counts, place, asked, lookup, removed}
+use Rattle.stack.specs.Recency.{Resident, counts, countsPins, place, asked, lookup, removed}
 use Rattle.stack.specs.Stack.{Totals}
 use Rattle.layout.specs.Addresses.{SUM, HEAD, TAIL, UNUSED, READS, WRITES, BLOCK, COUNT, MODIFIED}
 use Rattle.layout.specs.ModifiedWord.{marksIn}
@@ -23,17 +23,19 @@ use Rattle.word_ops.specs.Lists.{wordOf}
 use Rattle.word_ops.specs.Buckets.{found}
 use Rattle.word_ops.specs.Victim.{victimFrom}
 use Rattle.word_ops.specs.Purge.{purged}
-use Rattle.word_ops.specs.Totals.{outCounted}
+use Rattle.word_ops.specs.Totals.{accessCounted, outCounted}
 use Rattle.layout.specs.declared.Found.{Found}
+use Rattle.word_ops.specs.declared.Picked.{Picked}
+use Rattle.word_ops.specs.declared.Victim.the-variants.{At as VictimAt, AllPinned}
 use Rattle.layout.specs.declared.Found.the-variants.{At, Absent}
 use Rattle.operations.specs.Directory.{Directory}
 use Rattle.operations.specs.Seen.{address}
-use Rattle.operations.specs.Miss.{Countable, enteredFor, replacedFor}
+use Rattle.operations.specs.Miss.{Countable, accessD, access-sound, enteredFor, replacedFor}
 use Rattle.operations.specs.Residents.{Of, resident, residentsOf, alive}
 use Rattle.operations.specs.Lookup.{Told, asOption, find-is, find-seen}
-use Rattle.operations.specs.VictimWords.{found-victim}
-use Rattle.operations.specs.Counted.{totalsOf, totalsAfter}
-use Rattle.operations.specs.Stands.{Stands, stands-sum}
+use Rattle.operations.specs.VictimWords.{Chosen, Refused, Searched, found-victim}
+use Rattle.operations.specs.Counted.{totalsOf, raisedBy, totalsAfter, access-totals}
+use Rattle.operations.specs.Stands.{Given, Stands, stands-sum}
 use Rattle.operations.specs.Step.{hitFor, hit-asked, purge-step}
 use Rattle.operations.specs.MissStep.{enter-asked, replace-asked}
 
@@ -145,19 +147,53 @@ module _ (t : Settings) (s : Shape) (of : Of t s) (w : List ℕ) (l : List (Resi
           let q : D (inHeader UNUSED) 0 ≡ e = d .linked .stack .free .fwd .0 in
           absurd (d .linked .stack .free .some .0 (sym z ∙ header-is UNUSED (omega arith) (omega arith) (omega arith) ∙ q))
 
-  -- THE VICTIM: the chains looked at are those defined
-  pub looked-word : val w UNUSED ≡ 0 → victimFrom w (base s) (s .cmax) 1 .chains ≡ chains t (counts l)
-  looked-word z =
-      found-victim s w D (g .order) (g .unused) (g .directory) t of (full-word z) .looked ∙ ap (λ (m : List (Resident ℕ)). chains t (counts m)) (g .seen)
+  -- THE VICTIM, where the search finds one; the chains looked at are those defined
+  pub chosen-word : (links : ℕ) (p : Picked) → s .N ≤ links → val w UNUSED ≡ 0 → victimFrom w (base s) links (s .cmax) 1 ≡ VictimAt p
+      → Chosen t D (g .order) (p .chains) (p .entry)
+  chosen-word links p budget z q =
+      subst (Searched t D (g .order)) q (found-victim s w D (g .order) (g .unused) (g .directory) t of links budget (full-word z))
+
+  pub looked-word : (links : ℕ) (p : Picked) → s .N ≤ links → val w UNUSED ≡ 0 → victimFrom w (base s) links (s .cmax) 1 ≡ VictimAt p
+      → p .chains ≡ chains t (countsPins l)
+  looked-word links p budget z q =
+      chosen-word links p budget z q .looked ∙ ap (λ (m : List (Resident ℕ)). chains t (countsPins m)) (g .seen)
 
   -- A MISS where no entry is unused: the victim's block, if modified, is counted out
-  pub replace-word : (block links : ℕ) (written : Bool) → Room w → block < s .M → s .N ≤ links → foundIn s w links block ≡ Absent → val w UNUSED ≡ 0
-      → let e : ℕ = victimFrom w (base s) (s .cmax) 1 .entry in
+  pub replace-word : (block links reach : ℕ) (p : Picked) (written : Bool) → Room w → block < s .M → s .N ≤ links → s .N ≤ reach
+      → foundIn s w links block ≡ Absent → val w UNUSED ≡ 0 → victimFrom w (base s) reach (s .cmax) 1 ≡ VictimAt p
+      → let e : ℕ = p .entry in
       Stands t s (outCounted (val w (wordOf (base s) e MODIFIED)) (replacedFor s w (val w (wordOf (base s) e BLOCK)) e block written)) (asked block written e (place t block l)) (totalsAfter written (place t block l) totals)
-  replace-word block links written r room budget here z =
-      let e : ℕ = victimFrom w (base s) (s .cmax) 1 .entry in
+  replace-word block links reach p written r room budget enough here z q =
+      let e : ℕ = p .entry in
       carry (outCounted (val w (wordOf (base s) e MODIFIED)) (replacedFor s w (val w (wordOf (base s) e BLOCK)) e block written)) (λ m. asked block written e (place t block m)) (λ m v. totalsAfter written (place t block m) v)
-      (replace-asked t s of w D (countable r) (small r) (g .given) block room (g .order) (g .unused) links (victimFrom w (base s) (s .cmax) 1 .chains) e written (g .directory) budget here (full-word z) (found-victim s w D (g .order) (g .unused) (g .directory) t of (full-word z)))
+      (replace-asked t s of w D (countable r) (small r) (g .given) block room (g .order) (g .unused) links (p .chains) e written (g .directory) budget
+      here (full-word z) (chosen-word reach p enough z q))
+
+  -- every resident is pinned, where it finds none
+  pub pinned-word : (links : ℕ) → s .N ≤ links → val w UNUSED ≡ 0 → victimFrom w (base s) links (s .cmax) 1 ≡ AllPinned → Refused t D (g .order)
+  pinned-word links budget z q =
+      subst (Searched t D (g .order)) q (found-victim s w D (g .order) (g .unused) (g .directory) t of links budget (full-word z))
+
+  -- A REFUSAL: the read or the write is counted, and nothing else moves
+  pub refused-word : (written : Bool) → Room w → Stands t s (accessCounted written w) l (raisedBy totals (bit (not written)) (bit written) 0 0)
+  refused-word written r =
+      record {
+        fields = accessD written D;
+        order = g .order;
+        unused = g .unused;
+        directory = access-sound s w D (g .order) (g .unused) (countable r) (g .directory) written;
+        seen = same written ∙ g .seen;
+        counted = access-totals D written ∙ ap (λ (v : Totals). raisedBy v (bit (not written)) (bit written) 0 0) (g .counted);
+        given = limits written;
+      }
+    where
+      same : (b : Bool) → residentsOf (accessD b D) (g .order) ≡ residentsOf D (g .order)
+      same true = refl
+      same false = refl
+
+      limits : (b : Bool) → Given t (accessD b D)
+      limits true = record { average = g .given .average; bytes = g .given .bytes }
+      limits false = record { average = g .given .average; bytes = g .given .bytes }
 
   pub exceeds-word : exceeds t (counts l) ≡ ltb (t .amax * t .n) (val w SUM)
   unfolding exceeds

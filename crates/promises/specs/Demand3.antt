@@ -92,7 +92,8 @@ pub record Alike (m : Memory) (k : Plain) (rest : List ℕ) : Type 0 where
   pub same : plain (shown m) ≡ k
   pub past : drop (k .settings .m * k .settings .b) (m .store) ≡ rest
 
--- One call: the same number, answer words and read bytes; in every replacement the chains as demanded.
+-- One call: the same number, answer words and read bytes; in every replacement the chains reported are the smaller of the victim's
+-- count and Cmax, except where the victim isn't in the old section: then Cmax.
 pub record Agrees (c : Lending) (n : ℕ) (after : Slices) (k : Plain) (o : Result) : Type 0 where
   pub number : n ≡ o .number
   pub answers : after .answers ≡ over (map answerWord (o .ran .answers)) (c .answers)
@@ -128,7 +129,7 @@ LinkBound =
     → All (λ a. T (not (halved a))) (batch (plain (behind before)) (callOf (w ∷ []) incoming before) .ran .answers)
     → linksChanged (before .directory) (after .directory) ≤ 20
 
--- and a flush or a tick changes no link word
+-- and a flush, a tick, a pin or an unpin changes no link word
 abbrev pub LinksStay : Type 0
 LinksStay =
     (w : ℕ) (incoming : List ℕ) (before : Slices) (n : ℕ) (after : Slices)

@@ -14,13 +14,15 @@ use Rattle.words.specs.Links.{linksChanged}
 use Rattle.settings.specs.Buckets.{directoryLength}
 use Rattle.stack.specs.Counts.{chains, exceeds}
 use Rattle.stack.specs.declared.Marks.{Marks}
-use Rattle.stack.specs.Recency.{cleared, sawTick, Resident, remarked, Place, counts, place, asked, settled, removed}
-use Rattle.stack.specs.Stack.{Totals, Answer, accessTotals, answering}
+use Rattle.stack.specs.Recency.{cleared, sawTick, Resident, remarked, Place, counts, place, asked, settled, removed, pinnedAs, countsPins}
+use Rattle.stack.specs.Stack.{Totals, Answer, replaced, missRefused, accessTotals, answering}
 use Rattle.stack.specs.Entries.{entryFor, PickAt}
 use Rattle.layout.specs.Addresses.{TO-TAIL}
 use Rattle.layout.specs.Sound.{settingsIn, totalsIn, field, sound, residentAt, residentsIn}
 use Rattle.layout.specs.declared.Found.{Found}
 use Rattle.layout.specs.declared.Found.the-variants.{At, Absent}
+use Rattle.promises.specs.declared.Replacement.{Replacement}
+use Rattle.promises.specs.declared.Replacement.the-variants.{By, AllPinned}
 use Rattle.promises.specs.Promises.{halved}
 
 -- What a lookup yields, as the resident that it found.
@@ -47,9 +49,11 @@ askedOf words block written entry = asked block written entry (placeOf words blo
 -- the answer, by the recency stack
 abbrev pub answerOf : List ℕ → ℕ → Bool → ℕ → Answer
 answerOf words block written entry =
-    answering (chains (settingsIn words) (counts (residentsIn words))) (exceeds (settingsIn words) (counts (askedOf words block written entry))) (placeOf words block)
+    answering (chains (settingsIn words) (countsPins (residentsIn words)))
+    (exceeds (settingsIn words) (counts (askedOf words block written entry)))
+    (placeOf words block)
 
--- The block was asked for, and is then at that entry: its own, the victim's, or an unused one.
+-- The block was asked for, and is then at that entry: its own, the victim's, or an unused one; or it was refused, at none (0).
 pub record Accessed (links : ℕ) (before : List ℕ) (block : ℕ) (written : Bool) (entry : ℕ) (answer : Answer) (after : List ℕ) : Type 0 where
   pub kept : Kept before after
   pub entry-is : entryFor entry (placeOf before block) ≡ entry
@@ -59,7 +63,12 @@ pub record Accessed (links : ℕ) (before : List ℕ) (block : ℕ) (written : B
   pub answer-is : answerOf before block written entry ≡ answer
   pub links-few : T (not (halved answer)) → linksChanged before after ≤ links
 
--- ---- a purge
+-- A replacement, of a block that no resident has where no entry is unused: the victim gave way, or the block was refused.
+abbrev pub Replaces : List ℕ → ℕ → Bool → List ℕ → Replacement → Type 0
+Replaces before block written after (By r) = Accessed 20 before block written (r .entry) (replaced (r .victim) (r .chains) (r .out)) after
+Replaces before block written after AllPinned = Accessed 0 before block written 0 missRefused after
+
+-- ---- a purge; the cache asks it of unpinned residents only
 
 pub record Purged (links : ℕ) (before : List ℕ) (block : ℕ) (after : List ℕ) : Type 0 where
   pub kept : Kept before after
@@ -67,7 +76,7 @@ pub record Purged (links : ℕ) (before : List ℕ) (block : ℕ) (after : List 
   pub totals : totalsIn after ≡ totalsIn before
   pub links-few : linksChanged before after ≤ links
 
--- ---- a resident whose marks change
+-- ---- a resident whose marks change: cleared once its bytes were written out, a tick seen, pinned or unpinned
 
 -- the one at an entry
 abbrev pub markedAt : (Marks → Marks) → ℕ → List (Resident ℕ) → List (Resident ℕ)
@@ -90,6 +99,9 @@ Cleaned = Marked cleared 1
 -- it has seen a tick
 abbrev pub TickSeen : List ℕ → ℕ → List ℕ → Type 0
 TickSeen = Marked sawTick 0
+
+abbrev pub Pinned : Bool → List ℕ → ℕ → List ℕ → Type 0
+Pinned on = Marked (pinnedAs on) 0
 
 -- ---- reading along the stack
 

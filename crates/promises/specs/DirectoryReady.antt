@@ -39,12 +39,13 @@ pub record ReplaceReady (words : List ℕ) (block : ℕ) : Type 0 where
   pub miss : MissReady words block
   pub full : length (residentsIn words) ≡ settingsIn words .n
 
-pub record PurgeReady (words : List ℕ) (e : ℕ) : Type 0 where
+-- of a purge, a pin or an unpin
+pub record ResidentReady (words : List ℕ) (e : ℕ) : Type 0 where
   pub is-sound : T (sound words)
   pub resident : ResidentAt words e
 
--- entry e is that of a modified resident
-pub record CleanReady (words : List ℕ) (e : ℕ) : Type 0 where
+-- entry e is that of a modified resident, which was written out or has seen a tick
+pub record ModifiedReady (words : List ℕ) (e : ℕ) : Type 0 where
   pub is-sound : T (sound words)
   pub position : ℕ
   pub resident : Resident ℕ

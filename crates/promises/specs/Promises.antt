@@ -12,7 +12,7 @@ use Rattle.basics.specs.Basics.{All, if_then_else_}
 use Rattle.words.specs.Links.{linksChanged}
 use Rattle.settings.specs.declared.Settings.{Settings}
 use Rattle.settings.specs.Buckets.{directoryLength}
-use Rattle.stack.specs.Stack.{Work, read, write, purge, flush, tick, invalid, Answer, hit, entered, replaced, purged, absent, flushed, answerWord}
+use Rattle.stack.specs.Stack.{Work, read, write, purge, flush, tick, invalid, Answer, hit, entered, replaced, purged, absent, flushed, answerWord, pin, unpin, missRefused, pinned, purgeRefused}
 use Rattle.stack.specs.Batch.{Call, Ran, work, batchNumber}
 use Rattle.stack.specs.Entries.{Cache, entryRun, Picks}
 use Rattle.layout.specs.Layout.{freshWords, freshNumber}
@@ -77,10 +77,13 @@ halved (replaced b n o) = false
 halved (purged d) = false
 halved absent = false
 halved (flushed n) = false
+halved missRefused = false
+halved (pinned on) = false
+halved purgeRefused = false
 
--- whether a word leaves all link words as they are: a flush or a tick
+-- whether a word leaves all link words as they are: a flush, a tick, a pin or an unpin
 abbrev pub isStill : Work → Bool
-isStill = elim [ read b ↦ false | write b ↦ false | purge b ↦ false | flush ↦ true | tick ↦ true | invalid ↦ false ]
+isStill = elim [ read b ↦ false | write b ↦ false | purge b ↦ false | flush ↦ true | tick ↦ true | pin b ↦ true | unpin b ↦ true | invalid ↦ false ]
 
 -- An accepted batch, with the entries picked: one beside each word, of weight where its block enters an unused entry.
 module _ (words incoming : List ℕ) (before after : Slices) (picked : List (Work × ℕ)) where
@@ -104,7 +107,7 @@ module _ (words incoming : List ℕ) (before after : Slices) (picked : List (Wor
     pub empty-batch : words ≡ [] → after ≡ before
     -- one word, of whatever kind, that doesn't halve the counts
     pub links : (w : ℕ) → words ≡ w ∷ [] → All (λ a. T (not (halved a))) (ran .answers) → linksChanged (before .directory) (after .directory) ≤ 20
-    -- one flush or tick
+    -- one flush, tick, pin or unpin
     pub links-stay : (w : ℕ) → words ≡ w ∷ [] → T (isStill (work s w)) → linksChanged (before .directory) (after .directory) ≡ 0
 
 pub record Batch (words incoming : List ℕ) (before : Slices) (n : ℕ) (after : Slices) : Type 0 where

@@ -1,7 +1,7 @@
 -- What a work word does to one block: to its resident, if it has one, and to its bytes in the store.
 use Prim.Native.Nat.{ℕ, _+_, _≤_}
 use native.Mathlib.Omega.{arith}
-use mathlib.Core.Path.{_≡_, refl, sym, ap, _∙_}
+use mathlib.Core.Path.{_≡_, refl, sym, ap, _∙_, subst}
 use mathlib.Core.Logic.{_≢_, _⊎_, inl, inr}
 use mathlib.Core.Bool.{Bool, true, false, _||_, not}
 use mathlib.Core.List.{List, _∷_, map}
@@ -14,15 +14,15 @@ use Rattle.basics.specs.Lists.{those}
 use Rattle.basics.specs.TestLaws.{split, same-or-not}
 use Rattle.stack.specs.Counts.{exceeds}
 use Rattle.stack.specs.declared.Marks.{Marks}
-use Rattle.stack.specs.Recency.{askedMarks, cleared, Resident, Place, counts, position, halve, remarked, place, asked, settled, lookup, removed}
-use Rattle.stack.specs.Stack.{Plain, Work, read, write, purge, flush, tick, invalid, leaving, saved, savedAll, present}
+use Rattle.stack.specs.Recency.{askedMarks, cleared, Resident, Place, counts, position, halve, remarked, place, asked, settled, lookup, removed, pinAt}
+use Rattle.stack.specs.Stack.{Plain, Work, read, write, purge, flush, tick, invalid, leaving, saved, savedAll, present, pin, unpin, pinning}
 use Rattle.stack.specs.Stack.{access, purging, flushing, step, plainStep}
-use Rattle.stack.specs.StackLaws.{bytesFor}
+use Rattle.stack.specs.StackLaws.{bytesFor, purging-either}
 use Rattle.stack.specs.Batch.{isRead, isWrite}
-use Rattle.stack.specs.PlaceLaws.{Placed, hits, enters, replaces, placed, all-found}
+use Rattle.stack.specs.PlaceLaws.{Placed, hits, enters, replaces, all-found, refusing}
 use Rattle.stack.specs.BlockLaws.{Absent, AtPlace, place-blocks, Differ-at, lookup-none}
 use Rattle.stack.specs.MarkLaws.{WritesOut, flush-out, tick-out, chosen-modified, spared-unmodified, tick-seen}
-use Rattle.stack.specs.KeepLaws.{Kept}
+use Rattle.stack.specs.KeepLaws.{Kept, kept-placed, pin-keeps}
 use Rattle.stack.specs.LookupLaws.{lookup-first, lookup-past, lookup-absent, lookup-without, lookup-same, lookup-at}
 use Rattle.stack.specs.SavedLaws.{Sized, saved-other, saved-same, saved-unmodified, savedAll-other, those-at, those-away}
 use Rattle.stack.specs.Ticks.{isTick}
@@ -123,7 +123,8 @@ module _ (k : Plain) (kept : Kept k) (sizes : All (Sized itself (k .settings .b)
         (λ h. first-fate b _ l h
         (rw (lookup-absent b l (rw h at (at .0))) (entered _ refl z (λ t. unwritten false (blockAt B c (k .store)) t .1 ∙ rw h))))
         (λ h. past-fate b _ l h (untouched (lookup b l) z refl))
-    asked-fate q (replaces v x e full chains) at =
+    asked-fate q (refusing full all) at = untouched (lookup b l) z refl
+    asked-fate q (replaces v x e full free chains) at =
         let size : Sized itself B n x = all-found (Sized itself B n) l v x sizes e in
         let other = saved-other itself B n x (k .store) size refl b in
         same-or-not c b
@@ -146,7 +147,7 @@ module _ (k : Plain) (kept : Kept k) (sizes : All (Sized itself (k .settings .b)
         let q = place s c l in
         let next : List Holder = asked c written (bytesFor itself k c written incoming) q in
         settle next (exceeds s (counts next))
-        (asked-fate q (placed s l (kept .some-old) (kept .old-fits) (kept .few) (kept .legal) c) (place-blocks s c l (kept .differ)))
+        (asked-fate q (kept-placed k kept c) (place-blocks s c l (kept .differ)))
       where
         settle : {before after : List ℕ} {o : Option Holder} (next : List Holder) (t : Bool) → Fate w before after o (lookup b next)
             → Fate w before after o (lookup b (if t then map halve next else next))
@@ -160,9 +161,25 @@ module _ (k : Plain) (kept : Kept k) (sizes : All (Sized itself (k .settings .b)
   purging-fate c none e = untouched (lookup b l) refl refl
   purging-fate c (some x) e =
       let p = position c l in
-      same-or-not (x .block) b
+      purging-either itself (λ q bytes. bytes) (λ t. FateOf B b (purge c) k (t .after)) k c x
+      (λ t. untouched (lookup b l) refl refl)
+      (λ t. same-or-not (x .block) b
       (λ h. rw (lookup-absent b (without p l) (rw h at (Differ-at l p x (kept .differ) e))) (leaves (lookup b l) refl))
-      (λ h. rw (lookup-without b l p x e h) (untouched (lookup b l) refl refl))
+      (λ h. rw (lookup-without b l p x e h) (untouched (lookup b l) refl refl)))
+
+  -- ---- a pin or an unpin
+
+  pinning-fate : (w : Work) → isTick w ≡ 0 → (c : ℕ) (on : Bool) (o : Option Holder)
+      → FateOf B b w k (pinning itself (λ q bytes. bytes) k c on o .after)
+  unfolding pinning
+  pinning-fate w z c on none = untouched (lookup b l) z refl
+  pinning-fate w z c on (some x) = rw (lookup-same b (pinAt on c) (λ y. refl) l) (go (lookup b l))
+    where
+      go : (o : Option Holder) → Fate w (blockAt B b (k .store)) (blockAt B b (k .store)) o (Option·map (pinAt on c) o)
+      go none = away refl
+      go (some y) =
+          let e = pin-keeps on c y in
+          stayed y (pinAt on c y) refl (λ t. (subst (λ m. T (not m)) (e .0) t, refl)) (λ t. rw (e .1) (omega (arith, z)))
 
   -- ---- a flush or a tick
 
@@ -197,4 +214,6 @@ module _ (k : Plain) (kept : Kept k) (sizes : All (Sized itself (k .settings .b)
   step-fate (purge c) incoming = purging-fate c (lookup c l) refl
   step-fate flush incoming = flushing-fate (inl refl) flush-out (λ m t u. absurd u)
   step-fate tick incoming = flushing-fate (inr refl) tick-out tick-seen
+  step-fate (pin c) incoming = pinning-fate (pin c) refl c true (lookup c l)
+  step-fate (unpin c) incoming = pinning-fate (unpin c) refl c false (lookup c l)
   step-fate invalid incoming = untouched (lookup b l) refl refl

@@ -3,23 +3,21 @@
 use Prim.Native.Nat.{_+_, _≤_}
 use native.Mathlib.Omega.{arith}
 use mathlib.Core.Path.{_≡_, refl, ap, subst}
-use mathlib.Core.Bool.{Bool, true, false, _&&_, not}
+use mathlib.Core.Bool.{Bool, true, false, _&&_, _||_, not}
 use lib.Dec.{T}
 use Rattle.basics.specs.Basics.{if_then_else_, bit}
 use Rattle.basics.specs.TestLaws.{if-yes}
 use Rattle.stack.specs.declared.Marks.{Marks}
 use Rattle.stack.specs.Recency.{askedMarks, cleared, due, sawTick, ticked}
 
+yes-or : (a b : Bool) → T a → T (a || b)
+yes-or true b t = tt
+yes-or false b t = absurd t
+
 -- a write sets modified, so that seen has it
 pub asked-seen-modified : (written : Bool) (m : Marks) → (T (m .seen) → T (m .modified)) → T (askedMarks written m .seen)
     → T (askedMarks written m .modified)
-asked-seen-modified written m = go (m .modified) (m .seen) written
-  where
-    go : (a t w : Bool) → (T t → T a) → let after = askedMarks w (record { modified = a; seen = t }) in T (after .seen) → T (after .modified)
-    go true t w h s = tt
-    go false true w h s = absurd (h tt)
-    go false false true h s = tt
-    go false false false h s = s
+asked-seen-modified written m h s = yes-or (m .modified) written (h s)
 
 -- `chosen` are written out; marks then `change`
 pub record WritesOut (chosen : Marks → Bool) (change : Marks → Marks) : Type 0 where

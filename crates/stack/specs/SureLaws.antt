@@ -16,12 +16,12 @@ use Rattle.settings.specs.NumbersLaws.{LegalSettings, old-fits}
 use Rattle.stack.specs.BufferLaws.{block-ends, length-blockAt}
 use Rattle.stack.specs.Counts.{exceeds}
 use Rattle.stack.specs.declared.Marks.{Marks}
-use Rattle.stack.specs.Recency.{cleared, due, ticked, Place, counts, position, halve, remarked, place, asked, settled, lookup, removed}
-use Rattle.stack.specs.Stack.{Plain, empty, Work, read, write, purge, flush, tick, invalid, leaving, modifiedCount, savedAll, present}
+use Rattle.stack.specs.Recency.{cleared, due, ticked, Place, counts, position, halve, remarked, place, asked, settled, lookup, removed, pinAt}
+use Rattle.stack.specs.Stack.{Plain, empty, Work, read, write, purge, flush, tick, invalid, leaving, modifiedCount, savedAll, present, pin, unpin, pinning}
 use Rattle.stack.specs.Stack.{access, purging, flushing, step, plainStep}
-use Rattle.stack.specs.StackLaws.{bytesFor}
-use Rattle.stack.specs.PlaceLaws.{Placed, hits, enters, replaces, placed, all-found, all-without}
-use Rattle.stack.specs.KeepLaws.{Kept}
+use Rattle.stack.specs.StackLaws.{bytesFor, purging-either}
+use Rattle.stack.specs.PlaceLaws.{Placed, hits, enters, replaces, all-found, all-without, refusing}
+use Rattle.stack.specs.KeepLaws.{Kept, kept-placed}
 use Rattle.stack.specs.StepLaws.{step-kept}
 use Rattle.stack.specs.ForgetLaws.{InStore}
 use Rattle.stack.specs.RunLaws.{Brings, step-settings}
@@ -63,7 +63,8 @@ module _ (k : Plain) (kept : Kept k) (sizes : All (Sized itself (k .settings .b)
         let size = all-found (Sized itself B n) l p x sizes e in
         (((filled (x .held) (size .0), size .1), all-without (Sized itself B n) l p sizes), refl)
     asked-sized q (enters g) = (((filled _ (length-blockAt B c (k .store) ends), ends), sizes), refl)
-    asked-sized q (replaces v x e full chains) =
+    asked-sized q (refusing full all) = (sizes, refl)
+    asked-sized q (replaces v x e full free chains) =
         let long = saved-length itself B n x (k .store) (all-found (Sized itself B n) l v x sizes e) refl in
         (((filled _ (length-blockAt B c _ (rw long ends)), ends), all-without (Sized itself B n) l v sizes), long)
 
@@ -73,7 +74,7 @@ module _ (k : Plain) (kept : Kept k) (sizes : All (Sized itself (k .settings .b)
         let s = k .settings in
         let q = place s c l in
         let next : List Holder = asked c written (bytesFor itself k c written incoming) q in
-        let (fit, long) = asked-sized q (placed s l (kept .some-old) (kept .old-fits) (kept .few) (kept .legal) c) in
+        let (fit, long) = asked-sized q (kept-placed k kept c) in
         (settle next fit (exceeds s (counts next)), long)
       where
         settle : (next : List Holder) → All (Sized itself B n) next → (t : Bool) → All (Sized itself B n) (if t then map halve next else next)
@@ -83,7 +84,15 @@ module _ (k : Plain) (kept : Kept k) (sizes : All (Sized itself (k .settings .b)
   purging-sized : (c : ℕ) (o : Option Holder) → Sizes B n (purging itself (λ q bytes. bytes) k c o .after)
   unfolding purging removed
   purging-sized c none = (sizes, refl)
-  purging-sized c (some x) = (all-without (Sized itself B n) l (position c l) sizes, refl)
+  purging-sized c (some x) =
+      purging-either itself (λ q bytes. bytes) (λ t. Sizes B n (t .after)) k c x
+      (λ t. (sizes, refl))
+      (λ t. (all-without (Sized itself B n) l (position c l) sizes, refl))
+
+  pinning-sized : (c : ℕ) (on : Bool) (o : Option Holder) → Sizes B n (pinning itself (λ q bytes. bytes) k c on o .after)
+  unfolding pinning
+  pinning-sized c on none = (sizes, refl)
+  pinning-sized c on (some x) = (all-image (Sized itself B n) (pinAt on c) l sizes, refl)
 
   flushing-sized : (chosen : Marks → Bool) (change : Marks → Marks) → Sizes B n (flushing itself (λ q bytes. bytes) k chosen change .after)
   unfolding flushing
@@ -99,6 +108,8 @@ module _ (k : Plain) (kept : Kept k) (sizes : All (Sized itself (k .settings .b)
   step-sized (purge c) incoming inside brings = purging-sized c (lookup c l)
   step-sized flush incoming inside brings = flushing-sized (λ m. m .modified) cleared
   step-sized tick incoming inside brings = flushing-sized due ticked
+  step-sized (pin c) incoming inside brings = pinning-sized c true (lookup c l)
+  step-sized (unpin c) incoming inside brings = pinning-sized c false (lookup c l)
   step-sized invalid incoming inside brings = (sizes, refl)
 
 -- ---- clean blocks
@@ -131,6 +142,7 @@ empty-sure s store legal =
       kept = record {
         some-old = legal .some-old;
         old-fits = old-fits s legal;
+        few-chains = legal .few-chains;
         some-average = legal .some-average;
         few = omega arith;
         legal = tt;

@@ -9,7 +9,7 @@ use lib.ListN.{length, take, drop}
 use lib.Dec.{T}
 use Rattle.basics.specs.Basics.{All, Any, blockAt}
 use Rattle.stack.specs.Recency.{cleared, Resident, remarked, lookup}
-use Rattle.stack.specs.Stack.{Plain, Work, read, write, purge, flush, tick, invalid, plainStep, empty}
+use Rattle.stack.specs.Stack.{Plain, Work, read, write, purge, flush, tick, invalid, plainStep, empty, pin, unpin}
 use Rattle.settings.specs.declared.Settings.{Settings}
 use Rattle.settings.specs.Numbers.{settingsNumber}
 use Rattle.stack.specs.Batch.{work, isWrite, howMany, plainRun}
@@ -30,7 +30,7 @@ turns B k (w ∷ ws) incoming =
     record { before = k; word = w; after = after } ∷ turns B after ws (drop (isWrite w * B) incoming)
 
 abbrev pub isTick : Work → ℕ
-isTick = elim [ read b ↦ 0 | write b ↦ 0 | purge b ↦ 0 | flush ↦ 0 | tick ↦ 1 | invalid ↦ 0 ]
+isTick = elim [ read b ↦ 0 | write b ↦ 0 | purge b ↦ 0 | flush ↦ 0 | tick ↦ 1 | pin b ↦ 0 | unpin b ↦ 0 | invalid ↦ 0 ]
 
 abbrev pub ticks : List Turn → ℕ
 ticks run = howMany isTick (map (λ t. t .word) run)
@@ -45,8 +45,8 @@ module _ (b : ℕ) where
   abbrev pub Unsaved : Plain → Type 0
   Unsaved k = (x : Resident (List ℕ)) × (lookup b (k .residents) ≡ some x) × T (x .marks .modified)
 
-  -- A flush or a tick at which it was written out, and stayed: its marks were cleared, and the store then held its bytes. (A victim is
-  -- written out as it leaves.)
+  -- A flush or a tick at which it was written out, and stayed: its modified and seen marks were cleared, and the store then held its
+  -- bytes. (A victim is written out as it leaves.)
   pub record WrittenOut (t : Turn) : Type 0 where
     pub word : (t .word ≡ flush) ⊎ (t .word ≡ tick)
     pub resident : Resident (List ℕ)

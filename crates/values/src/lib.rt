@@ -2,6 +2,7 @@ ghost use mathlib.Core.Path.{_≡_};
 ghost use Prim.Native.Nat.{_-_, _^_, _<_};
 ghost use Rattle.word_ops.specs.Hit.{orElse, raisedCount};
 ghost use Rattle.word_ops.specs.Halve.{half};
+ghost use Rattle.word_ops.specs.Mark.{isMarked, isPinned, withMark, withoutWrite, withSeen, withPin};
 
 // A resident's section: new, middle (1) or old.
 pub const NEW: u32 = 0;
@@ -51,4 +52,51 @@ pub fn half_count(count: u32) -> u32
     ensures { λ r. ⌜ (r ≡ half count) × (r < 2 ^ 28) ⌝ }
 {
     (count + 1) / 2
+}
+
+// ---- the modified word of an entry: modified + 2 × seen + 4 × pinned
+
+// Whether it says modified.
+pub fn is_marked(word: u32) -> bool
+    ensures { λ r. ⌜ r ≡ isMarked word ⌝ }
+{
+    word % 2 == layout::MARKED
+}
+
+// Whether it says pinned.
+pub fn is_pinned(word: u32) -> bool
+    ensures { λ r. ⌜ r ≡ isPinned word ⌝ }
+{
+    word / layout::PINNED % 2 == 1
+}
+
+// It with the modified mark; the others stay.
+pub fn with_mark(word: u32) -> u32
+    ensures { λ r. ⌜ r ≡ withMark word ⌝ }
+{
+    word - word % 2 + layout::MARKED
+}
+
+// It without the two marks of a write; the pinned mark stays.
+pub fn without_write(word: u32) -> u32
+    ensures { λ r. ⌜ r ≡ withoutWrite word ⌝ }
+{
+    word - word % layout::PINNED
+}
+
+// It with both of them; the pinned mark stays.
+pub fn with_seen(word: u32) -> u32
+    ensures { λ r. ⌜ r ≡ withSeen word ⌝ }
+{
+    without_write(word) + layout::DUE
+}
+
+// It with the pinned mark, or without it; the others stay.
+pub fn with_pin(word: u32, on: bool) -> u32
+    ensures { λ r. ⌜ r ≡ withPin on word ⌝ }
+{
+    if on {
+        return word % layout::PINNED + layout::PINNED;
+    }
+    word % layout::PINNED
 }

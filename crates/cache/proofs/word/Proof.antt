@@ -1,9 +1,10 @@
-use Rattle.cache.proofs.Laws.{read-ready, read-word, write-ready, write-word, purge-word, flush-ready, flush-word}
+use Rattle.cache.proofs.Laws.{read-ready, read-word, write-ready, write-word, purge-word, pin-word, flush-ready, flush-word}
 use borrow.Author.Needs.{needs}
 use Rattle.cache.proofs.word.Statement.{statement}
 use Rattle.cache.proofs.word.Tie as tie
 use Rattle.cache.proofs.word.Reads as reads
 use Rattle.cache.proofs.word.Lts as lts
+use Rattle.accesses.proofs.pin.Reads as pin-reads
 use Rattle.accesses.proofs.purge.Reads as purge-reads
 use Rattle.accesses.proofs.read.Reads as read-reads
 use Rattle.accesses.proofs.write.Reads as write-reads
@@ -52,14 +53,24 @@ same-length-8 c = search needs
 returns-3 : tie.Need-returns-3
 returns-3 c = purge-word _ _ _ _ _ _ (c .before .before .before .before .before .before .before .before .before .before .before .before .pre) (c .before .before .before .before .if3 .taken) _ _ (c .before .before .purge .ensures)
 
-flush-requires : tie.Need-flush-requires
-flush-requires c κs = flush-ready _ _ _ _ _ _ (c .before .before .before .before .before .before .before .before .before .before .before .pre)
-
-flushed-word-requires : tie.Need-flushed-word-requires
-flushed-word-requires c κs = search needs
+pin-requires : tie.Need-pin-requires
+pin-requires c κs = search needs
 
 same-length-9 : tie.Need-same-length-9
 same-length-9 c = search needs
+
+returns-4 : tie.Need-returns-4
+returns-4 c =
+    let done = c .before .before in
+    let here = done .before .before in
+    let start = here .before .before .before .before .before .before .before .before .before in
+    pin-word _ _ _ _ _ _ (start .pre) (here .if4 .taken) _ _ (done .pin .ensures)
+
+flush-requires : tie.Need-flush-requires
+flush-requires c κs = flush-ready _ _ _ _ _ _ (c .before .before .before .before .before .before .before .before .before .before .before .before .pre)
+
+flushed-word-requires : tie.Need-flushed-word-requires
+flushed-word-requires c κs = search needs
 
 same-length-10 : tie.Need-same-length-10
 same-length-10 c = search needs
@@ -67,8 +78,19 @@ same-length-10 c = search needs
 same-length-11 : tie.Need-same-length-11
 same-length-11 c = search needs
 
-returns-4 : tie.Need-returns-4
-returns-4 c = flush-word _ _ _ _ _ _ (c .before .before .before .before .before .before .before .before .before .before .before .before .before .before .before .before .before .pre) (c .before .before .before .before .before .before .before .before .before .before .before .if1 .left) (c .before .before .before .before .before .before .before .before .before .before .if2 .left) (c .before .before .before .before .before .before .before .before .before .if3 .left) _ _ _ (c .before .before .before .before .before .flush .ensures .0) (c .flushed-word .ensures)
+same-length-12 : tie.Need-same-length-12
+same-length-12 c = search needs
+
+returns-5 : tie.Need-returns-5
+returns-5 c =
+    let done = c .before .before .before .before .before in
+    let fourth = done .before .before .before .before in
+    let third = fourth .before in
+    let second = third .before in
+    let first = second .before in
+    let start = first .before .before .before .before .before .before in
+    flush-word _ _ _ _ _ _ (start .pre) (first .if1 .left) (second .if2 .left) (third .if3 .left) (fourth .if4 .left) _ _ _ (done .flush .ensures .0)
+    (c .flushed-word .ensures)
 
 pub word-spec : {M : Type 1} → statement M
 word-spec =
@@ -88,9 +110,12 @@ word-spec =
     purge-requires
     same-length-8
     returns-3
+    pin-requires
+    same-length-9
+    returns-4
     flush-requires
     flushed-word-requires
-    same-length-9
     same-length-10
     same-length-11
-    returns-4)
+    same-length-12
+    returns-5)

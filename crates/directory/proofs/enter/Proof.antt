@@ -1,4 +1,4 @@
-use Rattle.directory.proofs.Laws.{enter-returns}
+use Rattle.directory.proofs.Laws.{settings-legal, framed, enter-returns}
 use borrow.Author.Needs.{needs}
 use Rattle.directory.proofs.enter.Statement.{statement}
 use Rattle.directory.proofs.enter.Tie as tie
@@ -10,22 +10,44 @@ use Rattle.directory.proofs.settle.Reads as settle-reads
 use Rattle.directory.proofs.unused_place.Reads as unused-place-reads
 
 frame-of-requires : tie.Need-frame-of-requires
-frame-of-requires c κs = search needs
+frame-of-requires c κs =
+    let asks = c .before .pre in
+    settings-legal _ _ (asks .0 .miss .is-sound) (asks .1)
 
 unused-place-requires : tie.Need-unused-place-requires
-unused-place-requires c κs = search needs
+unused-place-requires c κs =
+    let framing = c .before in
+    let asks = framing .before .before .pre in
+    let fr = framed _ _ _ (asks .0 .miss .is-sound) (asks .1) (framing .frame-of .ensures) in
+    search needs
 
 enter-entry-requires : tie.Need-enter-entry-requires
-enter-entry-requires c κs = search needs
+enter-entry-requires c κs =
+    let framing = c .before .before .before in
+    let asks = framing .before .before .pre in
+    let fr = framed _ _ _ (asks .0 .miss .is-sound) (asks .1) (framing .frame-of .ensures) in
+    search needs
 
 settle-requires : tie.Need-settle-requires
-settle-requires c κs = search needs
+settle-requires c κs =
+    let framing = c .before .before .before .before .before .before .before in
+    let asks = framing .before .before .pre in
+    let fr = framed _ _ _ (asks .0 .miss .is-sound) (asks .1) (framing .frame-of .ensures) in
+    search needs
 
 same-length : tie.Need-same-length
 same-length c = search needs
 
 returns : tie.Need-returns
-returns c = enter-returns _ _ _ _ _ _ _ _ (c .before .before .before .before .before .before .before .before .before .before .before .before .before .pre) (c .before .before .before .before .before .before .before .before .before .before .frame-of .ensures) (c .before .before .before .before .before .before .before .before .unused-place .ensures) (c .before .before .before .before .before .before .enter-entry .ensures) (c .before .before .settle .ensures .0) (c .before .before .settle .ensures .1)
+returns c =
+    let settled = c .before .before in
+    let stored = settled .before .before .before .before in
+    let placed = stored .before .before in
+    let framing = placed .before .before in
+    let asks = framing .before .before .pre in
+    let fr = framed _ _ _ (asks .0 .miss .is-sound) (asks .1) (framing .frame-of .ensures) in
+    enter-returns _ _ _ _ _ _ _ _ (asks .0) fr (placed .unused-place .ensures) (stored .enter-entry .ensures) (settled .settle .ensures .0)
+    (settled .settle .ensures .1)
 
 pub enter-spec : {M : Type 1} → statement M
 enter-spec =

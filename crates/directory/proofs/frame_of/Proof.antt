@@ -1,4 +1,6 @@
-use Rattle.directory.proofs.Laws.{blocks-within, chains-within, buckets-within, limit-small, framed}
+use Rattle.settings.specs.NumbersLaws.{legal-settings}
+use Rattle.settings.specs.BucketLaws.{buckets-few}
+use Rattle.directory.proofs.Laws.{limit-small}
 use native.Mathlib.Omega.{arith}
 use borrow.Author.Needs.{needs}
 use Rattle.directory.proofs.frame_of.Statement.{statement}
@@ -7,58 +9,38 @@ use Rattle.directory.proofs.frame_of.Reads as reads
 use Rattle.directory.proofs.frame_of.Lts as lts
 use Rattle.directory.proofs.entries_from.Reads as entries-from-reads
 use Rattle.settings.proofs.buckets.Reads as buckets-reads
-use Rattle.words.proofs.value.Reads as value-reads
-
-value-requires : tie.Need-value-requires
-value-requires c κs = search needs
-
-value-requires-2 : tie.Need-value-requires-2
-value-requires-2 c κs = search needs
-
-value-requires-3 : tie.Need-value-requires-3
-value-requires-3 c κs = search needs
 
 buckets-requires : tie.Need-buckets-requires
-buckets-requires c κs = blocks-within _ (c .before .before .before .before .pre) _ _ (c .before .before .value .ensures) (c .before .value2 .ensures)
+buckets-requires c κs =
+    let l = legal-settings _ (c .pre) in
+    (l .some-blocks, l .few-blocks)
 
 entries-from-requires : tie.Need-entries-from-requires
 entries-from-requires c κs =
-    let start = c .before .before .before .before .before in
-    let n-is = c .before .before .before .value .ensures in
-    let cmax-is = c .before .before .value2 .ensures in
-    (chains-within _ (start .pre) _ _ n-is cmax-is, buckets-within _ (start .pre) _ _ n-is cmax-is _ (c .buckets .ensures) .1)
+    let l = legal-settings _ (c .before .pre) in
+    (l .few-chains, rw (c .buckets .ensures) (buckets-few _ (l .few-blocks)))
 
-add-t7 : tie.Need-add-t7
-add-t7 c =
-    let n-is = c .before .before .before .before .value .ensures in
-    let few = blocks-within _ (c .before .before .before .before .before .before .pre) _ _ n-is (c .before .before .before .value2 .ensures) in
+add-t4 : tie.Need-add-t4
+add-t4 c =
+    let l = legal-settings _ (c .before .before .before .pre) in
+    let few = l .few-blocks in
     omega arith
 
-cast-t8 : tie.Need-cast-t8
-cast-t8 c = search needs
+cast-t5 : tie.Need-cast-t5
+cast-t5 c = search needs
 
-cast-t9 : tie.Need-cast-t9
-cast-t9 c = search needs
+cast-t6 : tie.Need-cast-t6
+cast-t6 c = search needs
 
-mul-t10 : tie.Need-mul-t10
-mul-t10 c = omega (arith, limit-small _ _ _ (c .before .before .before .before .before .before .pre) (c .before .before .value3 .ensures) (c .before .before .before .before .value .ensures))
+mul-t7 : tie.Need-mul-t7
+mul-t7 c = omega (arith, limit-small _ (c .before .before .before .before .before .pre))
 
 returns : tie.Need-returns
 returns c =
-    let start = c .before .before .before .before .before .before in
-    framed _ (start .pre) _ _ (c .before .before .before .before .value .ensures) (c .before .before .before .value2 .ensures) _ (c .before .buckets .ensures) _ _ (c .before .before .value3 .ensures) (c .entries-from .ensures)
+    let placed = c .before .before .before in
+    rw (placed .entries-from .ensures, placed .before .buckets .ensures)
 
 pub frame-of-spec : {M : Type 1} → statement M
 frame-of-spec =
     tie.close
-    (tie.spec
-    value-requires
-    value-requires-2
-    value-requires-3
-    buckets-requires
-    entries-from-requires
-    add-t7
-    cast-t8
-    cast-t9
-    mul-t10
-    returns)
+    (tie.spec buckets-requires entries-from-requires add-t4 cast-t5 cast-t6 mul-t7 returns)

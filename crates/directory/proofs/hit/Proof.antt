@@ -1,4 +1,4 @@
-use Rattle.directory.proofs.Laws.{hit-returns}
+use Rattle.directory.proofs.Laws.{settings-legal, framed, hit-returns}
 use borrow.Author.Needs.{needs}
 use Rattle.directory.proofs.hit.Statement.{statement}
 use Rattle.directory.proofs.hit.Tie as tie
@@ -9,24 +9,36 @@ use Rattle.directory.proofs.hit_entry.Reads as hit-entry-reads
 use Rattle.directory.proofs.settle.Reads as settle-reads
 
 frame-of-requires : tie.Need-frame-of-requires
-frame-of-requires c κs = search needs
+frame-of-requires c κs =
+    let asks = c .before .pre in
+    settings-legal _ _ (asks .0 .is-sound) (asks .1)
 
 hit-entry-requires : tie.Need-hit-entry-requires
-hit-entry-requires c κs = search needs
+hit-entry-requires c κs =
+    let framing = c .before in
+    let asks = framing .before .before .pre in
+    let fr = framed _ _ _ (asks .0 .is-sound) (asks .1) (framing .frame-of .ensures) in
+    search needs
 
 settle-requires : tie.Need-settle-requires
-settle-requires c κs = search needs
+settle-requires c κs =
+    let framing = c .before .before .before .before .before in
+    let asks = framing .before .before .pre in
+    let fr = framed _ _ _ (asks .0 .is-sound) (asks .1) (framing .frame-of .ensures) in
+    search needs
 
 same-length : tie.Need-same-length
 same-length c = search needs
 
 returns : tie.Need-returns
 returns c =
-    let start = c .before .before .before .before .before .before .before .before .before .before .before in
-    let framed = c .before .before .before .before .before .before .before .before in
+    let framing = c .before .before .before .before .before .before .before .before in
+    let asks = framing .before .before .pre in
+    let fr = framed _ _ _ (asks .0 .is-sound) (asks .1) (framing .frame-of .ensures) in
     let moved = c .before .before .before .before .before .before in
     let settled = c .before .before in
-    hit-returns _ _ _ _ _ _ _ _ (start .pre) (framed .frame-of .ensures) (moved .hit-entry .ensures .0) (moved .hit-entry .ensures .1) (settled .settle .ensures .0) (settled .settle .ensures .1)
+    hit-returns _ _ _ _ _ _ _ _ (asks .0) fr (moved .hit-entry .ensures .0) (moved .hit-entry .ensures .1) (settled .settle .ensures .0)
+    (settled .settle .ensures .1)
 
 pub hit-spec : {M : Type 1} → statement M
 hit-spec =

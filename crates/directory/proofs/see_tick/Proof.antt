@@ -6,6 +6,8 @@ use Rattle.directory.proofs.see_tick.Reads as reads
 use Rattle.directory.proofs.see_tick.Lts as lts
 use Rattle.directory.proofs.entries_at.Reads as entries-at-reads
 use Rattle.lists.proofs.word_of.Reads as word-of-reads
+use Rattle.values.proofs.with_seen.Reads as with-seen-reads
+use Rattle.words.proofs.get.Reads as get-reads
 use Rattle.words.proofs.set_number.Reads as set-number-reads
 
 entries-at-requires : tie.Need-entries-at-requires
@@ -13,6 +15,12 @@ entries-at-requires c κs = search needs
 
 word-of-requires : tie.Need-word-of-requires
 word-of-requires c κs = search needs
+
+get-requires : tie.Need-get-requires
+get-requires c κs = search needs
+
+with-seen-requires : tie.Need-with-seen-requires
+with-seen-requires c κs = search needs
 
 set-number-requires : tie.Need-set-number-requires
 set-number-requires c κs = search needs
@@ -22,12 +30,15 @@ same-length c = search needs
 
 returns : tie.Need-returns
 returns c =
-    let seen = c .before .before in
-    let worded = seen .before in
-    let based = worded .before .before in
-    tick-returns _ _ _ _ _ (based .before .before .before .pre) (based .entries-at .ensures) (worded .word-of .ensures) (seen .set-number .ensures)
+    let marked = c .before .before in
+    let seen = marked .before in
+    let got = seen .before .before in
+    let worded = got .before .before in
+    let based = worded .before in
+    tick-returns _ _ _ _ _ _ _ (based .before .before .before .pre) (based .entries-at .ensures) (worded .word-of .ensures) (got .get .ensures)
+    (seen .with-seen .ensures) (marked .set-number .ensures)
 
 pub see-tick-spec : {M : Type 1} → statement M
 see-tick-spec =
     tie.close
-    (tie.spec entries-at-requires word-of-requires set-number-requires same-length returns)
+    (tie.spec entries-at-requires word-of-requires get-requires with-seen-requires set-number-requires same-length returns)

@@ -1,42 +1,35 @@
 use Prim.Native.Nat.{_+_, _-_, _≤_}
 use borrow.Author.Needs.{needs}
-use mathlib.Core.Path.{_≡_, sym, _∙_, ap}
+use mathlib.Core.Path.{_≡_, sym, _∙_}
 use native.Mathlib.Omega.{arith}
-use Rattle.word_ops.specs.Victim.{isOldEntry, victimFrom}
-use Rattle.words.specs.Words.{val}
+use Rattle.word_ops.specs.Victim.{chainLast, victimFrom}
 use Rattle.search.proofs.Laws.{picked-none, picked-here, picked-next}
 use Rattle.search.proofs.victim.Statement.{statement}
 use Rattle.search.proofs.victim.Tie as tie
 use Rattle.search.proofs.victim.Reads as reads
 use Rattle.search.proofs.victim.Lts as lts
-use Rattle.lists.proofs.chain_tail.Reads as chain-tail-reads
-use Rattle.search.proofs.is_old_entry.Reads as is-old-entry-reads
-use Rattle.search.proofs.last_of.Reads as last-of-reads
+use Rattle.search.proofs.chain_last.Reads as chain-last-reads
+use Rattle.search.proofs.least_recent.Reads as least-recent-reads
 
 abbrev Inv-loop : tie.InvT-loop
-Inv-loop dir at cmax i₀ left₀ i left = (victimFrom dir at left i ≡ victimFrom dir at cmax 1) × (1 ≤ i) × (i + left ≡ cmax + 1) × (cmax ≤ 64)
+Inv-loop dir at links cmax i₀ left₀ i left =
+    (victimFrom dir at links left i ≡ victimFrom dir at links cmax 1) × (1 ≤ i) × (i + left ≡ cmax + 1) × (cmax ≤ 64)
 
 abbrev μ-loop : tie.MeasureT-loop
-μ-loop dir at cmax i₀ left₀ i left = left
+μ-loop dir at links cmax i₀ left₀ i left = left
 
 loop-holds : tie.Need-loop-holds Inv-loop μ-loop
 loop-holds c = search needs
 
-chain-tail-requires : tie.Need-chain-tail-requires Inv-loop μ-loop
-chain-tail-requires c κs = search needs
-
-last-of-requires : tie.Need-last-of-requires Inv-loop μ-loop
-last-of-requires c κs = search needs
-
-is-old-entry-requires : tie.Need-is-old-entry-requires Inv-loop μ-loop
-is-old-entry-requires c κs = search needs
+chain-last-requires : tie.Need-chain-last-requires Inv-loop μ-loop
+chain-last-requires c κs = search needs
 
 returns : tie.Need-returns Inv-loop μ-loop
 returns c =
-    let l = c .before .before .before .before .before .loop in
-    let e = c .before .before .last-of .ensures ∙ ap (val _) (c .before .before .before .chain-tail .ensures) in
-    let q = ap (isOldEntry _ _) (sym e) ∙ sym (c .before .is-old-entry .ensures) ∙ c .if1 .taken in
-    rw e (sym (picked-here _ _ (l .left) (l .i) (c .before .before .before .before .loop-test .taken) q) ∙ l .inv .0)
+    let t = c .before .before in
+    let l = t .before .loop in
+    let e : c .before .chain-last .result ≡ chainLast _ _ _ (l .i) = c .before .chain-last .ensures in
+    sym (picked-here _ _ _ (l .left) (l .i) _ (t .loop-test .taken) e (c .if1 .taken)) ∙ l .inv .0
 
 add-i : tie.Need-add-i Inv-loop μ-loop
 add-i c = search needs
@@ -49,21 +42,21 @@ loop-less c = search needs
 
 loop-again : tie.Need-loop-again Inv-loop μ-loop
 loop-again c =
-    let l = c .before .before .before .before .before .loop in
-    let e = c .before .before .last-of .ensures ∙ ap (val _) (c .before .before .before .chain-tail .ensures) in
-    let q = ap (isOldEntry _ _) (sym e) ∙ sym (c .before .is-old-entry .ensures) ∙ c .if1 .left in
-    let t = c .before .before .before .before .loop-test .taken in
-    (sym (picked-next _ _ (l .left) (l .i) t q) ∙ l .inv .0, omega arith, omega (arith, l .inv .2), l .inv .3)
+    let t = c .before .before in
+    let l = t .before .loop in
+    let e : c .before .chain-last .result ≡ chainLast _ _ _ (l .i) = c .before .chain-last .ensures in
+    let step = picked-next _ _ _ (l .left) (l .i) _ (t .loop-test .taken) e (c .if1 .left) in
+    (sym step ∙ l .inv .0, omega arith, omega (arith, l .inv .2), l .inv .3)
 
-last-of-requires-2 : tie.Need-last-of-requires-2 Inv-loop μ-loop
-last-of-requires-2 c κs = search needs
+least-recent-requires : tie.Need-least-recent-requires Inv-loop μ-loop
+least-recent-requires c κs = search needs
 
 returns-2 : tie.Need-returns-2 Inv-loop μ-loop
 returns-2 c =
     let l = c .before .before .loop in
     let n : l .left ≡ 0 = omega (arith, c .before .loop-test .left) in
     let q : c .before .before .before .before .args .cmax ≡ l .i - 1 = omega (arith, l .inv .2) in
-    rw (c .last-of2 .ensures) (sym (picked-none _ _ (l .left) (l .i) _ n q) ∙ l .inv .0)
+    c .least-recent .ensures ∙ sym (picked-none _ _ _ (l .left) (l .i) _ n q) ∙ l .inv .0
 
 pub victim-spec : {M : Type 1} → statement M
 victim-spec =
@@ -72,13 +65,11 @@ victim-spec =
     Inv-loop
     μ-loop
     loop-holds
-    chain-tail-requires
-    last-of-requires
-    is-old-entry-requires
+    chain-last-requires
     returns
     add-i
     sub-left
     loop-less
     loop-again
-    last-of-requires-2
+    least-recent-requires
     returns-2)
