@@ -53,8 +53,8 @@ static bool chains_end(const struct check *c, const uint32_t *last) {
     return true;
 }
 
-/* A number, whose kind was tested: modified + 2 * seen is 0 alone of the even ones, 1 and 3 of the odd ones. */
-static bool wrong_marks(uint32_t word) { return word > ((uint32_t)NUMBER << 28) + 3 * (word & 1); }
+/* A number, whose kind was tested: a pin apart, 0 alone of the even ones, 1 and 3 of the odd ones. */
+static bool wrong_marks(uint32_t word) { return (word & ~4u) > ((uint32_t)NUMBER << 28) + 3 * (word & 1); }
 
 static bool stack(const struct check *c) {
     const uint32_t *d = c->dir;

@@ -54,11 +54,11 @@ static uint32_t number_of_none(void) {
 }
 
 static void show_answer(uint32_t answer) {
-    const uint32_t parts[9] = {FBR_KIND(answer),          FBR_VALUE(answer),         FBR_ANSWER_COUNT(answer),
+    const uint32_t parts[10] = {FBR_KIND(answer),          FBR_VALUE(answer),         FBR_ANSWER_COUNT(answer),
                                FBR_ANSWER_HALVED(answer), FBR_ANSWER_VICTIM(answer), FBR_ANSWER_CHAINS(answer),
                                FBR_ANSWER_WRITTEN_OUT(answer), FBR_ANSWER_DISCARDED(answer),
-                               FBR_ANSWER_FLUSHED(answer)};
-    for (int i = 0; i < 9; i++) printf(i == 0 ? "%" PRIu32 : " %" PRIu32, parts[i]);
+                               FBR_ANSWER_FLUSHED(answer), FBR_ANSWER_PINNED(answer)};
+    for (int i = 0; i < 10; i++) printf(i == 0 ? "%" PRIu32 : " %" PRIu32, parts[i]);
     printf("\n");
 }
 

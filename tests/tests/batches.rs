@@ -16,9 +16,10 @@ use std::collections::BTreeMap;
 struct Corners(BTreeMap<&'static str, u64>);
 
 impl Corners {
-    const NAMES: [&'static str; 15] = [
+    const NAMES: [&'static str; 17] = [
         "N 1", "Nnew 0", "N - Nold 0", "no middle section", "Cmax 1", "Cmax 64", "Amax 1", "B 1", "B above 1", "M 1",
         "M below N", "full at the end", "sum at Amax x N", "seen at the end", "unseen at the end",
+        "some pinned at the end", "all pinned at the end",
     ];
     fn count(&mut self, s: Settings, beside: &Beside) {
         let residents = &beside.stack.residents;
@@ -39,6 +40,8 @@ impl Corners {
             sum == sum_limit(s),
             residents.iter().any(|resident| resident.marks.seen),
             residents.iter().any(|resident| resident.marks.modified && !resident.marks.seen),
+            residents.iter().any(|resident| resident.marks.pinned),
+            residents.len() as u32 == s.n && residents.iter().all(|resident| resident.marks.pinned),
         ];
         for (name, _) in Self::NAMES.into_iter().zip(reached).filter(|corner| corner.1) {
             *self.0.entry(name).or_default() += 1;
@@ -55,13 +58,13 @@ impl Corners {
 fn print(histories: usize, seen: &Seen) {
     println!("{histories} histories; calls that returned 0 to 12: {:?}; {} looks", seen.numbers, seen.looks);
     println!(
-        "  answers 1 to 6: {:?}, {} halved, {} victims written out, up to {} chains",
+        "  answers 1 to 9: {:?}, {} halved, {} victims written out, up to {} chains",
         &seen.answers[1..],
         seen.halved,
         seen.written_out,
         seen.most_chains
     );
-    println!("  {:?}", seen.ticks);
+    println!("  {:?}; {:?}", seen.ticks, seen.pins);
 }
 
 #[test]
@@ -84,7 +87,7 @@ fn fresh_then_batches() {
     assert!((0..=10).chain([12]).all(|number| seen.numbers[number] > 100));
     assert_eq!(seen.longer_looks, histories as u64);
     assert!(seen.answers[1..].iter().all(|&times| times > 5_000) && seen.halved > 5_000 && seen.written_out > 5_000);
-    assert!(seen.ticks.all_above(2_000));
+    assert!(seen.ticks.all_above(2_000) && seen.pins.all_above(1_000));
     assert!(seen.most_chains > 10);
 }
 
@@ -106,7 +109,7 @@ fn batches_from_built_directories() {
     assert!(seen.numbers.iter().all(|&times| times > 100));
     assert_eq!(seen.longer_looks, histories as u64);
     assert!(seen.answers[1..].iter().all(|&times| times > 3_000) && seen.halved > 3_000 && seen.written_out > 3_000);
-    assert!(seen.ticks.all_above(1_000));
+    assert!(seen.ticks.all_above(1_000) && seen.pins.all_above(500));
     assert_eq!(seen.most_chains, MAX_CMAX);
 }
 
@@ -170,8 +173,12 @@ fn crowded_buckets() {
         let blocks = samples::crowded_blocks(&mut rng, s, 2 * n);
         let mut beside = histories::fresh(&mut rng, LIBRARY, s);
         for _ in 0..10 {
-            let kinds = [work::READ, work::READ, work::WRITE, work::PURGE];
-            let mut words: Vec<u32> = (0..60).map(|_| word(rng.pick(&kinds), rng.pick(&blocks))).collect();
+            let pinning = samples::Pinning::drawn(&mut rng);
+            let one = |rng: &mut Rng| {
+                let (kind, block) = (rng.pick(&[work::READ, work::READ, work::WRITE, work::PURGE]), rng.pick(&blocks));
+                pinning.word(rng, block).unwrap_or(word(kind, block))
+            };
+            let mut words: Vec<u32> = (0..60).map(|_| one(&mut rng)).collect();
             words.insert(rng.below(60) as usize, word(work::TICK, 0));
             let call = histories::call_of(&mut rng, &beside, words);
             assert_eq!(beside.call(&call), 0);
@@ -180,7 +187,7 @@ fn crowded_buckets() {
         seen.add(&beside.seen);
     }
     print(histories, &seen);
-    assert!(seen.answers[1..].iter().all(|&times| times > 500) && seen.ticks.wrote_out > 100);
+    assert!(seen.answers[1..].iter().all(|&times| times > 200) && seen.ticks.wrote_out > 100);
 }
 
 /// Reads + writes that leave room for exactly `room` words.
@@ -216,11 +223,11 @@ fn totals_on_and_beside_the_limit_of_11() {
             let mut beside = near_the_limit(&mut rng, s, room as u64, case % 3);
             let call = histories::call_of(&mut rng, &beside, work.clone());
             assert_eq!(beside.call(&call), expected, "{length} words, room for {room}");
-            // purges, flushes and ticks use up no room: only reads and writes count in the totals
+            // the other words use up no room: only reads and writes count in the totals
             let left = MOST_TOTAL - beside.stack.reads - beside.stack.writes;
             carried_out_on_the_limit += u32::from(expected == 0 && left == 0);
             for (length, number) in [(left, 0), (left + 1, 11)] {
-                let idle = word(rng.pick(&[work::PURGE, work::FLUSH, work::TICK]), 0);
+                let idle = word(rng.pick(&[work::PURGE, work::FLUSH, work::TICK, work::PIN, work::UNPIN]), 0);
                 let call = histories::call_of(&mut rng, &beside, vec![idle; length as usize]);
                 assert_eq!(beside.call(&call), number);
             }

@@ -34,9 +34,28 @@ fn callers_of_lookup_take_the_entry_by_let_else() {
             callers += 1;
         }
     }
-    assert_eq!(callers, 3, "a read or write, a purge, a look");
+    assert_eq!(callers, 4, "a read or write, a purge, a pin, a look");
     let layout = source("layout/src/lib.rt");
     assert!(layout.contains("pub enum Found {\n    At(u32),\n    Absent,\n}"));
+}
+
+/// The victim search, and what hands its outcome on: each call is taken by `let .. else`, all pinned first.
+#[test]
+fn callers_of_the_victim_search_take_it_by_let_else() {
+    for (name, call, pattern, callers) in [
+        ("directory", "search::victim(", "let Victim::At(picked) = search::victim(", 1),
+        ("accesses", "directory::replace(", "let Replacement::By(r) = directory::replace(", 1),
+        ("accesses", " access(", "let Place::At(a) = access(", 2),
+    ] {
+        let text = source(&format!("{name}/src/lib.rt"));
+        let calls = text.lines().map(str::trim).filter(|line| line.contains(call) && !line.contains("fn "));
+        let calls: Vec<&str> = calls.collect();
+        assert_eq!(calls.len(), callers, "{name}: {calls:?}");
+        assert!(calls.iter().all(|line| line.starts_with(pattern) && line.ends_with("else {")), "{name}: {calls:?}");
+    }
+    let victim = "pub enum Victim {\n    At(Picked),\n    AllPinned,\n}";
+    let replacement = "pub enum Replacement {\n    By(Replaced),\n    AllPinned,\n}";
+    assert!(source("word_ops/src/lib.rt").contains(victim) && source("promises/src/lib.rt").contains(replacement));
 }
 
 #[test]
@@ -191,9 +210,12 @@ fn every_public_function_has_two_wrong_programs() {
         let groups: Vec<Vec<&str>> = columns[2].split(';').map(quoted).collect();
         assert!(groups.len() >= functions.len() && groups.iter().all(|edits| edits.len() >= 2), "{row}");
         for edits in groups {
-            let folder = root().join("crates").join(edits[0].split('/').next().unwrap()).join("must-fail");
+            // an edit without a crate is of the crate named before it
+            let mut of = "";
             for edit in edits {
-                let path = folder.join(format!("{}.edit", edit.rsplit('/').next().unwrap()));
+                let (named, label) = edit.split_once('/').unwrap_or((of, edit));
+                of = named;
+                let path = root().join("crates").join(of).join("must-fail").join(format!("{label}.edit"));
                 assert!(path.is_file(), "{}", path.display());
             }
         }

@@ -8,6 +8,7 @@ use std::sync::OnceLock;
 #[path = "../c/compile.rs"]
 mod compile;
 use cache_tests::reference::beside::NUMBERS;
+use cache_tests::reference::stack::answer::KINDS;
 use compile::{compiled, text, LANGUAGES};
 
 /// A function's parameters, name and type, and what it returns; types are spelled as in Rust.
@@ -233,10 +234,10 @@ fn answer_words() -> Vec<u32> {
     edges.chain((0..2_000_u32).map(|i| i.wrapping_mul(0x9e37_79b1))).collect()
 }
 /// The parts of an answer, in the order of the header's macros.
-fn parts_of(word: u32) -> [u32; 9] {
+fn parts_of(word: u32) -> [u32; 10] {
     let value = word % (1 << 28);
     let (bit, chains) = (|at: u32| value / (1 << at) % 2, value / (1 << 18) % 128);
-    [word >> 28, value, value % (1 << 26), bit(26), value % (1 << 18), chains, bit(25), bit(0), value]
+    [word >> 28, value, value % (1 << 26), bit(26), value % (1 << 18), chains, bit(25), bit(0), value, bit(0)]
 }
 /// The parts of an answer that the header's macros gave, in the words of the Rust crate; none for no answer's kind.
 fn in_words(parts: &[u32]) -> Option<String> {
@@ -248,6 +249,9 @@ fn in_words(parts: &[u32]) -> Option<String> {
         4 => format!("Purged {{ discarded: {} }}", parts[7] == 1),
         5 => "Absent".to_string(),
         6 => format!("Flushed {{ written: {} }}", parts[8]),
+        7 => "AllPinned".to_string(),
+        8 => format!("Pinned {{ pinned: {} }}", parts[9] == 1),
+        9 => "PurgeRefused".to_string(),
         _ => return None,
     })
 }
@@ -257,8 +261,8 @@ fn possible(kind: u32, value: u32) -> bool {
         1 => value >> 27 == 0,
         2 => value == 0 || value == 1 << 26,
         3 => value >> 26 == 0,
-        4 => value <= 1,
-        5 => value == 0,
+        4 | 8 => value <= 1,
+        5 | 7 | 9 => value == 0,
         _ => kind == 6,
     }
 }
@@ -267,7 +271,7 @@ fn possible(kind: u32, value: u32) -> bool {
 fn parts_of_the_answers() {
     let words = answer_words();
     let said = header_says(&words.iter().map(|word| format!("answer {word}")).collect::<Vec<_>>());
-    let mut compared = [0; 7];
+    let mut compared = [0; KINDS];
     for (&word, line) in words.iter().zip(&said) {
         let parts = numbers(line);
         assert_eq!(parts, parts_of(word), "{word:#x}");
@@ -291,7 +295,7 @@ fn words_that_do_not_fit_are_refused() {
     let mut accepted = 0;
     for (&(kind, value), line) in pairs.iter().zip(&said) {
         let [word, number] = numbers(line)[..] else { panic!("{line}") };
-        let meant = (1..=3).contains(&kind) && value < M || [4, 5].contains(&kind) && value == 0;
+        let meant = [1, 2, 3, 6, 7].contains(&kind) && value < M || [4, 5].contains(&kind) && value == 0;
         assert_eq!(number, if meant { 0 } else { 9 }, "kind {kind}, value {value}, word {word:#x}");
         let exact = kind < 16 && value < 1 << 28;
         assert!(!exact || u64::from(word) == u64::from(kind) << 28 | value, "kind {kind}, value {value}");

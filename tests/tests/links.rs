@@ -1,6 +1,6 @@
 //! The link bound: a batch of one word, whatever its kind, changes few link words if it does not halve, from every
-//! sound directory. A flush and a tick change none.
-use cache_tests::reference::beside::Beside;
+//! sound directory. Where order and counts stay, as at a flush, a tick, a pin or an unpin, it changes none.
+use cache_tests::reference::beside::{Beside, Met};
 use cache_tests::reference::directory::{kind, value, word, Map, LINK};
 use cache_tests::reference::rng::Rng;
 use cache_tests::reference::settings::MAX_N;
@@ -9,11 +9,17 @@ use cache_tests::reference::{histories, samples};
 use cache_tests::{Settings, LIBRARY};
 
 const BOUND: usize = 20;
-/// By the kind of the answer; a tick's answer has the kind of a flush's.
-const NAMES: [&str; 7] = ["hit", "entered", "replaced", "purged", "absent", "flushed", "ticked"];
-const TICKED: usize = 6;
+/// By the kind of the answer; a tick's answer has the kind of a flush's, an unpin's that of a pin's. The last are
+/// replacements that passed a pinned resident.
+const NAMES: [&str; 12] = [
+    "hit", "entered", "replaced", "purged", "absent", "flushed", "all pinned", "pinned", "purge refused", "ticked",
+    "unpinned", "replaced past pins",
+];
+const TICKED: usize = 9;
+const UNPINNED: usize = 10;
+const PAST_PINS: usize = 11;
 /// Those that change no link word.
-const NONE: std::ops::RangeInclusive<usize> = 4..=TICKED;
+const NONE: std::ops::RangeInclusive<usize> = 4..=UNPINNED;
 
 /// The largest number of changed link words and how many batches, of each kind of answer.
 #[derive(Default)]
@@ -29,13 +35,13 @@ impl Largest {
     fn print(&self, title: &str) {
         println!("{title}: link words changed, and batches; {} batches halved and do not count", self.halved);
         for (i, name) in NAMES.into_iter().enumerate() {
-            println!("  {name:<9} {:>3} {:>9}", self.changed[i], self.batches[i]);
+            println!("  {name:<18} {:>3} {:>9}", self.changed[i], self.batches[i]);
         }
     }
 
     /// One word, and the link words whose values differ after it.
     fn one(&mut self, rng: &mut Rng, beside: &mut Beside, w: u32) {
-        let before = beside.dir.clone();
+        let (before, passed) = (beside.dir.clone(), passed(beside));
         let call = histories::call_of(rng, beside, vec![w]);
         assert_eq!(beside.call(&call), 0);
         let answered = beside.last_answers[0];
@@ -48,7 +54,12 @@ impl Largest {
         let links = (0..map.length()).filter(|&address| map.kind_at(address) == LINK);
         let changed = links.filter(|&address| value(before[address]) != value(beside.dir[address])).count();
         assert!(changed <= BOUND, "{changed} link words changed by {w:#x}, answer {answered:#x}, {s:?}");
-        let i = if kind(w) == work::TICK { TICKED } else { kind(answered) as usize - 1 };
+        let i = match (kind(w), kind(answered)) {
+            (work::TICK, _) => TICKED,
+            (work::UNPIN, answer::PINNED) => UNPINNED,
+            (_, answer::REPLACED) if self::passed(beside) > passed => PAST_PINS,
+            (_, answered) => answered as usize - 1,
+        };
         self.changed[i] = self.changed[i].max(changed);
         self.batches[i] += 1;
         if kind(answered) == answer::FLUSHED {
@@ -56,12 +67,18 @@ impl Largest {
         }
     }
 
-    /// An absent block, a flush and a tick change none; the others change the stack's ends at least.
+    /// None where order and counts stay; the others change the stack's ends at least.
     fn none_where_order_stays(&self) {
-        assert_eq!(self.changed[NONE], [0; 3], "{NAMES:?}");
-        assert!(self.changed[..4].iter().all(|&changed| changed >= 5));
+        assert!(self.changed[NONE].iter().all(|&changed| changed == 0), "{NAMES:?}: {:?}", self.changed);
+        let moved = self.changed[..4].iter().chain(&self.changed[PAST_PINS..]);
+        assert!(moved.into_iter().all(|&changed| changed >= 5));
         assert!(self.wrote_out.iter().all(|&times| times > 20), "{:?}", self.wrote_out);
     }
+}
+
+/// How many victims were found past a pinned resident so far.
+fn passed(beside: &Beside) -> u64 {
+    beside.seen.pins.0.get(&Met::Passed).copied().unwrap_or(0)
 }
 
 /// A sound directory whose totals leave room.
@@ -95,7 +112,7 @@ fn every_position_of_small_directories() {
         let absent: Vec<u32> = (0..s.m).filter(|block| !blocks.contains(block)).take(4).collect();
         blocks.extend(absent);
         for block in blocks {
-            for k in [work::READ, work::WRITE, work::PURGE] {
+            for k in histories::OF_A_BLOCK {
                 largest.one(&mut rng, &mut again(&beside), word(k, block));
             }
         }
@@ -105,7 +122,7 @@ fn every_position_of_small_directories() {
     }
     println!("{directories} directories");
     largest.print("every position");
-    assert!(largest.batches.iter().all(|&batches| batches > 1_000));
+    assert!(largest.batches.iter().all(|&batches| batches > 500));
     largest.none_where_order_stays();
 }
 
@@ -134,18 +151,20 @@ fn larger_directories() {
 fn along_histories() {
     let mut rng = Rng::announced("along_histories", 93);
     let mut largest = Largest::default();
-    let histories = 400;
+    let histories = 600;
     for _ in 0..histories {
         let n = rng.within(1, 30);
         let mut s = histories::settings(&mut rng, n);
         s.b = 1;
         let mut beside = histories::fresh(&mut rng, LIBRARY, s);
-        for w in histories::work_words(&mut rng, s, 120) {
-            largest.one(&mut rng, &mut beside, w);
+        for _ in 0..4 {
+            for w in histories::work_words(&mut rng, s, 40) {
+                largest.one(&mut rng, &mut beside, w);
+            }
         }
     }
     println!("{histories} histories");
     largest.print("along histories");
-    assert!(largest.batches.iter().all(|&batches| batches > 500) && largest.halved > 100);
+    assert!(largest.batches.iter().all(|&batches| batches > 200) && largest.halved > 100);
     largest.none_where_order_stays();
 }

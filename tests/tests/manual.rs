@@ -145,6 +145,14 @@ fn ticks_in_c() {
     after_the_sizes("ticks_in_c", &[BATCH, &first, again].concat(), "0 written out\n1 written out\n");
 }
 
+/// The block is pinned where it was written before, and absent where not.
+#[test]
+fn pins_in_c() {
+    let lines = shown("c pins");
+    after_the_sizes("pins_in_c", &[BATCH, &lines].concat(), "block 3 is pinned\n");
+    after_the_sizes("pins_in_c_absent", &lines, "block 3 is not in the cache\n");
+}
+
 #[test]
 fn saving_in_c() {
     let folder = folder("saving_in_c");
@@ -204,6 +212,10 @@ fn the_controller() {
 #[test]
 fn the_timeline_of_ticks() {
     assert_eq!(example("ticks"), shown("text ticks"));
+}
+#[test]
+fn a_flights_boarding() {
+    assert_eq!(example("boarding"), shown("text boarding"));
 }
 #[test]
 fn the_occupancy_of_a_day() {

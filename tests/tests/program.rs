@@ -2,6 +2,7 @@
 //! It stands at ../target/bin/belt_cycle beside this folder, or where the environment variable BELT_CYCLE says.
 use cache_tests::reference::directory::{kind, value, word};
 use cache_tests::reference::rng::Rng;
+use cache_tests::reference::stack::answer::KINDS;
 use cache_tests::reference::stack::{work, PlainStack};
 use cache_tests::reference::{histories, samples};
 use cache_tests::BELT;
@@ -117,11 +118,13 @@ fn inputs_about_4_100_bytes() {
 fn refused_words() {
     let mut rng = Rng::announced("refused_words", 112);
     let (mut inputs, mut refused) = (0, 0);
-    let mut wrong: Vec<u32> = [0, 6, 7, 8, 9, 10, 11, 12, 13, 14, 15].map(|k| word(k, 0)).to_vec();
+    let mut wrong: Vec<u32> = [0, 8, 9, 10, 11, 12, 13, 14, 15].map(|k| word(k, 0)).to_vec();
     wrong.extend([
         word(1, 64),
         word(2, 64),
         word(3, 64),
+        word(6, 64),
+        word(7, 64),
         word(4, 1),
         word(5, 1),
         word(5, 63),
@@ -129,6 +132,7 @@ fn refused_words() {
         word(2, 1 << 20),
         word(4, 1 << 27),
         word(5, 1 << 27),
+        word(6, 1 << 27),
     ]);
     for w in wrong {
         let length = rng.below(20) as usize;
@@ -151,8 +155,8 @@ fn refused_words() {
 #[test]
 fn random_words() {
     let mut rng = Rng::announced("random_words", 113);
-    let (mut kinds, mut ticks) = ([0u32; 7], [0u32; 2]);
-    let inputs = 300;
+    let (mut kinds, mut ticks) = ([0u32; KINDS], [0u32; 2]);
+    let inputs = 450;
     for input in 0..inputs {
         let length = if input % 10 == 0 { 1_024 } else { rng.within(0, 200) };
         let words = histories::work_words(&mut rng, BELT, length as usize);
@@ -166,7 +170,7 @@ fn random_words() {
             }
         }
     }
-    println!("{inputs} inputs, answers 1 to 6: {:?}; {ticks:?} ticks wrote out none, and some", &kinds[1..]);
+    println!("{inputs} inputs, answers 1 to 9: {:?}; {ticks:?} ticks wrote out none, and some", &kinds[1..]);
     assert!(kinds[1..].iter().all(|&times| times > 500) && ticks.iter().all(|&times| times > 200));
 }
 
@@ -191,7 +195,7 @@ fn sample(name: &str) -> Vec<u8> {
     std::fs::read(folder.join(name)).unwrap()
 }
 
-/// The samples that ship with the repository, and the lines stored beside two of them.
+/// The samples that ship with the repository, and the lines stored beside three of them.
 #[test]
 fn samples_of_the_repository() {
     assert_eq!(check(&sample("example_a.words")), LINES_OF_A);
@@ -200,7 +204,10 @@ fn samples_of_the_repository() {
     for kind in 1..=6 {
         assert!(lines.lines().any(|line| line.starts_with(&format!("{kind} "))), "no answer of kind {kind}");
     }
-    assert_eq!(check(&sample("ticks.words")).as_bytes(), &sample("ticks.lines")[..]);
+    for name in ["ticks", "pins"] {
+        let [words, lines] = ["words", "lines"].map(|end| sample(&format!("{name}.{end}")));
+        assert_eq!(check(&words).as_bytes(), &lines[..], "{name}");
+    }
 }
 
 /// The plain stack's lines for example a are the scope's.
@@ -218,4 +225,19 @@ fn expected_lines_of_ticks() {
     let answered = words.chunks_exact(4).zip(lines.lines());
     let ticks: Vec<&str> = answered.filter(|(word, _)| word[3] >> 4 == 5).map(|(_, line)| line).collect();
     assert_eq!(ticks, ["6 0", "6 1", "6 0", "6 0", "6 2", "6 0", "6 0"]);
+}
+
+/// Pins, unpins and purges; at the two answers of kind 7 all four residents are pinned, and the last victim is the only
+/// unpinned one, of the middle section.
+#[test]
+fn expected_lines_of_pins() {
+    let (words, lines) = (sample("pins.words"), expected(&sample("pins.words")));
+    assert_eq!(lines.as_bytes(), &sample("pins.lines")[..]);
+    let answered = words.chunks_exact(4).zip(lines.lines());
+    let of_kind = |kind: u8| answered.clone().filter(move |(word, _)| word[3] >> 4 == kind).map(|(_, line)| line);
+    assert_eq!(of_kind(6).collect::<Vec<_>>(), ["8 1", "8 1", "8 1", "5 0", "8 1", "8 1"]);
+    assert_eq!(of_kind(7).collect::<Vec<_>>(), ["8 0", "8 0", "8 0", "5 0"]);
+    assert_eq!(of_kind(3).collect::<Vec<_>>(), ["9 0", "4 0", "5 0"]);
+    assert_eq!(lines.lines().filter(|&line| line == "7 0").count(), 2);
+    assert!(lines.contains("\n3 786445\n"), "block 13, 3 chains: {lines}");
 }

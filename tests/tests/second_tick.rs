@@ -73,10 +73,10 @@ impl Altered {
         match (self.rule, kind(w)) {
             (Rule::TickWritesOutWhatItMarks, work::TICK) => modified.for_each(|marks| marks.seen = true),
             (Rule::TickForgetsBytes, work::TICK) => {
-                modified.filter(|marks| marks.seen).for_each(|marks| *marks = Marks::NONE)
+                modified.filter(|marks| marks.seen).for_each(|marks| *marks = marks.written_out())
             }
             (Rule::TickWritesOutUnmodified, work::TICK) => {
-                others.into_iter().for_each(|marks| *marks = Marks { modified: true, seen: true })
+                others.into_iter().for_each(|marks| (marks.modified, marks.seen) = (true, true))
             }
             _ => {}
         }
@@ -85,14 +85,15 @@ impl Altered {
     /// The answer by the rule; `was` are the marks before the word.
     fn after(&mut self, w: u32, answered: u32, was: &[Marks]) -> u32 {
         let mut marks = self.stack.residents.iter_mut().map(|held| &mut held.marks);
-        let hit = kind(answered) == answer::HIT;
+        let entered = matches!(kind(answered), answer::ENTERED | answer::REPLACED);
+        let written = entered || kind(answered) == answer::HIT;
         match (self.rule, kind(w)) {
-            (Rule::WriteClearsSeen, work::WRITE) => marks.next().unwrap().seen = false,
+            (Rule::WriteClearsSeen, work::WRITE) if written => marks.next().unwrap().seen = false,
             (Rule::TickMarksNothing, work::TICK) => marks.for_each(|marks| marks.seen = false),
             // a tick moves no resident
             (Rule::TickLeavesSeen, work::TICK) => marks.zip(was).for_each(|(marks, was)| marks.seen |= was.seen),
             (Rule::FlushLeavesSeen, work::FLUSH) => marks.for_each(|marks| marks.seen = true),
-            (Rule::EntersSeen, work::WRITE) if !hit => marks.next().unwrap().seen = true,
+            (Rule::EntersSeen, work::WRITE) if entered => marks.next().unwrap().seen = true,
             (Rule::TickCountsWhatItMarks, work::TICK) => {
                 return answered + marks.filter(|marks| marks.seen).count() as u32;
             }
@@ -158,9 +159,9 @@ fn written_out_at_the_second_tick_at_the_latest() {
         seen.add(&library.seen);
         (written_on, older) = (written_on + watch.written_on, older + watch.older_than_a_tick);
     }
-    println!("500 histories of 150 words; {:?}; answers 1 to 6: {:?}", seen.ticks, &seen.answers[1..]);
+    println!("500 histories of 150 words; {:?}; answers 1 to 9: {:?}", seen.ticks, &seen.answers[1..]);
     println!("{written_on} writes to blocks that waited, {older} times the store of a block was older than a tick");
-    assert!(seen.ticks.all_above(500) && seen.answers[1..].iter().all(|&times| times > 500));
+    assert!(seen.ticks.all_above(500) && seen.answers[1..].iter().all(|&times| times > 200));
     // without these, one tick would be bound enough, and no write could have put anything off
     assert!(written_on > 1_000 && older > 1_000);
 }
@@ -202,7 +203,7 @@ fn two_ticks_from_built_directories() {
         for held in plan.residents.iter().filter(|held| held.is_modified()) {
             let stayed = !replaced.contains(&held.block);
             assert!(!stayed || first.contains(&held.block) || second.contains(&held.block), "{held:?} of {plan:?}");
-            assert!(!stayed || held.marks == 1 || first.contains(&held.block), "{held:?} of {plan:?}");
+            assert!(!stayed || held.marks & 2 == 0 || first.contains(&held.block), "{held:?} of {plan:?}");
             left += u32::from(!stayed);
             at_the_first += u32::from(stayed && first.contains(&held.block));
             at_the_second += u32::from(stayed && !first.contains(&held.block));

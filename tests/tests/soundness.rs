@@ -14,6 +14,7 @@ use damage::{links, plans, regions, small_plan};
 fn corners(plan: &Plan) -> Vec<&'static str> {
     let (s, r) = (plan.settings, plan.residents.len() as u32);
     let has_count = |count: u32| plan.residents.iter().any(|resident| resident.count == count);
+    let has_marks = |marks: &[u32]| plan.residents.iter().any(|resident| marks.contains(&resident.marks));
     let crowded = (0..plan.map().buckets()).any(|bucket| s.n <= 64 && plan.bucket(bucket).len() >= 3);
     let long_chain = (1..=s.cmax).any(|count| s.n <= 64 && plan.chain(count).len() >= 3);
     let all = [
@@ -34,8 +35,11 @@ fn corners(plan: &Plan) -> Vec<&'static str> {
         (plan.sum() == sum_limit(s), "sum at Amax x N"),
         (plan.totals.writes == plan.totals.outs + plan.modified(), "outs + modified = writes"),
         (plan.totals.ins == plan.totals.reads, "ins = reads"),
-        (plan.residents.iter().any(|resident| resident.marks == 1), "modified and unseen"),
-        (plan.residents.iter().any(|resident| resident.marks == 3), "modified and seen"),
+        (has_marks(&[1, 5]), "modified and unseen"),
+        (has_marks(&[3, 7]), "modified and seen"),
+        (has_marks(&[4]), "pinned alone"),
+        (has_marks(&[5, 7]), "pinned and modified"),
+        (r > 0 && plan.residents.iter().all(|resident| resident.marks >= 4), "all pinned"),
         (crowded, "three synonyms"),
         (long_chain, "three in a chain"),
     ];
@@ -62,8 +66,8 @@ fn sound_directories_are_accepted() {
     let names = [
         "no residents", "part full", "full", "Nnew 0", "N - Nold 0", "no middle section", "Cmax 1", "Cmax 64",
         "Amax 1,000", "B 4,096", "M 262,144", "M below N", "count 65,535", "count above Cmax", "sum at Amax x N",
-        "outs + modified = writes", "ins = reads", "modified and unseen", "modified and seen", "three synonyms",
-        "three in a chain",
+        "outs + modified = writes", "ins = reads", "modified and unseen", "modified and seen", "pinned alone",
+        "pinned and modified", "all pinned", "three synonyms", "three in a chain",
     ];
     for name in names {
         assert!(reached.of(name).0 >= 20, "{name} was reached {} times", reached.of(name).0);

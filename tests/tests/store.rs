@@ -71,12 +71,13 @@ fn lengths_about_m_times_b() {
 type Spoil = fn(&mut Call);
 
 /// One thing wrong: its number over a store of M × B bytes, and over a longer one.
-const OTHERS: [(&str, Spoil, u32, u32); 11] = [
+const OTHERS: [(&str, Spoil, u32, u32); 12] = [
     ("data too short", |call| call.lent.data -= 1, 7, 7),
     ("no data", |call| call.lent.data = 0, 7, 7),
     ("1,025 words", |call| call.work.resize(work::MOST_WORDS + 1, word(work::PURGE, 0)), 8, 12),
     ("a kind of 0", |call| call.work[1] = word(0, 0), 9, 12),
-    ("a kind of 6", |call| call.work[1] = word(6, 0), 9, 12),
+    ("a kind of 8", |call| call.work[1] = word(8, 0), 9, 12),
+    ("a pin of M", |call| call.work[2] = word(work::PIN, BELT.m), 9, 12),
     ("a block of M", |call| call.work[1] = word(work::READ, BELT.m), 9, 12),
     ("a flush with a value", |call| call.work[2] = word(work::FLUSH, 1), 9, 12),
     ("a tick with a value", |call| call.work[2] = word(work::TICK, 1), 9, 12),

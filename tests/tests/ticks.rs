@@ -2,44 +2,25 @@
 //! that are sound.
 use cache_tests::reference::beside::{Beside, Call};
 use cache_tests::reference::builder::Totals;
-use cache_tests::reference::directory::{entry, header, kind, number, value, word, Map, MAX_VALUE, NUMBER};
+use cache_tests::reference::directory::{entry, header, number, word, Map, MAX_VALUE, NUMBER};
 use cache_tests::reference::marks;
 use cache_tests::reference::rng::Rng;
+use cache_tests::reference::stack::words::{FLUSH, PURGE, READ, TICK, WRITE};
 use cache_tests::reference::stack::{answer, work, Lent, MOST_TOTAL};
 use cache_tests::reference::{c_judge, fast_judge, histories, judge, samples};
 use cache_tests::{batch, look_number, sound, table, totals, Settings, BELT, LIBRARY};
 use std::collections::BTreeSet;
 
 const ONE: Settings = Settings { n: 1, nnew: 0, nold: 1, cmax: 1, amax: 10, b: 8, m: 64 };
-const READ: u32 = word(work::READ, 0);
-const WRITE: u32 = word(work::WRITE, 0);
-const PURGE: u32 = word(work::PURGE, 0);
-const FLUSH: u32 = word(work::FLUSH, 0);
-const TICK: u32 = word(work::TICK, 0);
 
 fn start(s: Settings, seed: u64) -> Beside {
     histories::fresh(&mut Rng::announced("an example", seed), LIBRARY, s)
 }
-fn exact(beside: &Beside, work: &[u32]) -> Call {
-    let b = beside.stack.settings.b as usize;
-    let incoming = (0..work.len() * b).map(|i| (i / b + 1) as u8).collect();
-    let (answers, outgoing) = (vec![0; work.len()], vec![0; work.len() * b]);
-    Call { lent: beside.stack.whole(), work: work.to_vec(), incoming, answers, outgoing }
-}
-/// An accepted batch whose j-th write is all bytes j, compared with the plain stack's; the answers as kind and value.
 fn run(beside: &mut Beside, work: &[u32]) -> Vec<(u32, u32)> {
-    let call = exact(beside, work);
-    assert_eq!(beside.call(&call), 0);
-    beside.last_answers.iter().map(|&w| (kind(w), value(w))).collect()
+    beside.answered(work)
 }
-/// The modified words of the residents, most recent first.
 fn modified_words(beside: &Beside) -> Vec<u32> {
-    let (map, mut e, mut words) = (Map::of(beside.stack.settings), value(beside.dir[header::HEAD]), vec![]);
-    while e != 0 {
-        words.push(value(beside.dir[map.entry(e, entry::MODIFIED)]));
-        e = value(beside.dir[map.entry(e, entry::TOWARDS_TAIL)]);
-    }
-    words
+    beside.modified_words()
 }
 
 #[test]
@@ -125,7 +106,7 @@ fn a_batch_of_1_024_ticks() {
     let answers = run(&mut belt, &[TICK; 1_024]);
     assert_eq!((answers[0], answers[1]), ((6, 0), (6, 4)));
     assert!(answers[2..].iter().all(|&answer| answer == (6, 0)));
-    let call = exact(&belt, &[TICK; 1_025]);
+    let call = belt.exact(&[TICK; 1_025]);
     assert_eq!(belt.call(&call), 8);
     let mut out = [0; 4];
     assert_eq!((totals(&belt.dir, &mut out), out), (0, [0, 4, 0, 4]));
@@ -148,16 +129,16 @@ fn totals_after_ticks() {
     assert_eq!((totals(&belt.dir, &mut out), out), (0, [0; 4]));
 }
 
-/// 9 for a tick with a value and for kinds above 5, alone, beside a good tick, and where a later number holds as well.
+/// 9 for a tick with a value and for kinds above 7, alone, beside a good tick, and where a later number holds as well.
 #[test]
 fn words_that_are_no_tick() {
     let mut belt = start(BELT, 309);
     run(&mut belt, &[WRITE + 1, TICK]);
     let values = [1, 2, 63, 64, 1 << 27, MAX_VALUE].map(|value| TICK + value);
-    let kinds = (6..16).chain([0]).flat_map(|kind| [0, 1, 5].map(|value| word(kind, value)));
+    let kinds = (8..16).chain([0]).flat_map(|kind| [0, 1, 5].map(|value| word(kind, value)));
     for w in values.into_iter().chain(kinds) {
         for words in [vec![w], vec![TICK, w], vec![w, TICK]] {
-            let call = exact(&belt, &words);
+            let call = belt.exact(&words);
             assert_eq!(belt.call(&call), 9, "{w:#x}");
             let short = Call { answers: vec![], ..call.clone() };
             assert_eq!(belt.call(&short), 9, "{w:#x} before 10");
@@ -166,10 +147,10 @@ fn words_that_are_no_tick() {
             let shorter = Call { lent: Lent { data: call.lent.data - 1, ..call.lent }, ..call };
             assert_eq!(belt.call(&shorter), 7, "7 before {w:#x}");
         }
-        let many = exact(&belt, &[&[TICK; 1_024][..], &[w]].concat());
+        let many = belt.exact(&[&[TICK; 1_024][..], &[w]].concat());
         assert_eq!(belt.call(&many), 8, "8 before {w:#x}");
     }
-    let short = Call { answers: vec![0; 2], ..exact(&belt, &[TICK; 3]) };
+    let short = Call { answers: vec![0; 2], ..belt.exact(&[TICK; 3]) };
     assert_eq!(belt.call(&short), 10);
     assert_eq!(modified_words(&belt), [3], "none of these ticks was carried out");
 }
@@ -182,10 +163,10 @@ fn ticks_at_the_limit_of_11() {
     plan.residents.iter_mut().for_each(|resident| resident.marks = 3);
     plan.totals = Totals { reads: MOST_TOTAL - 6, writes: 4, ins: 0, outs: 0 };
     let mut belt = histories::built_of(&mut rng, LIBRARY, &plan);
-    let call = exact(&belt, &[TICK; 3]);
+    let call = belt.exact(&[TICK; 3]);
     assert_eq!(belt.call(&call), 11);
     assert_eq!(run(&mut belt, &[TICK; 2]), [(6, 4), (6, 0)]);
-    let call = exact(&belt, &[TICK, TICK + 1, TICK]);
+    let call = belt.exact(&[TICK, TICK + 1, TICK]);
     assert_eq!(belt.call(&call), 9, "9 before 11");
 }
 
@@ -200,8 +181,8 @@ fn declined(beside: &Beside, words: &[u32]) {
     assert_eq!((look_number(words, &data, &store, 0), totals(words, &mut out), table(words).0), (6, 6, 6));
 }
 
-/// Every modified word of a resident in turn: 0, 1 and 3 of kind 1 are accepted, if the totals have room, and nothing
-/// else is.
+/// Every modified word of a resident in turn: 0, 1, 3, 4, 5 and 7 of kind 1 are accepted, if the totals have room, and
+/// nothing else is. A pin takes no room.
 #[test]
 fn modified_words_that_are_sound() {
     let mut rng = Rng::announced("modified_words_that_are_sound", 311);
@@ -209,14 +190,14 @@ fn modified_words_that_are_sound() {
     let (mut accepted, mut refused) = (0, 0);
     for roomy in [true, false] {
         let mut plan = samples::plan_of(&mut rng, BELT, 3);
-        plan.residents.iter_mut().zip([0, 1, 3]).for_each(|(resident, marks)| resident.marks = marks);
+        plan.residents.iter_mut().zip([0, 1, 7]).for_each(|(resident, marks)| resident.marks = marks);
         plan.totals = Totals { reads: 9, writes: if roomy { 9 } else { 2 }, ins: 9, outs: 0 };
         let beside = histories::built_of(&mut rng, LIBRARY, &plan);
         for (position, &e) in plan.arrangement.entries.iter().enumerate() {
             for (kind, &value) in (0..16).flat_map(|kind| values.iter().map(move |value| (kind, value))) {
                 let mut words = plan.build();
                 words[plan.map().entry(e, entry::MODIFIED)] = word(kind, value);
-                let fits = roomy || position > 0 || value == 0;
+                let fits = roomy || position > 0 || value % 2 == 0;
                 if kind == NUMBER && marks::LEGAL.contains(&value) && fits {
                     let judged = [sound(&words), judge::sound(&words), fast_judge::sound(&words)];
                     assert!(judged == [true; 3] && c_judge::sound(&words), "{value} at position {position}");
@@ -234,8 +215,8 @@ fn modified_words_that_are_sound() {
         }
     }
     println!("{accepted} words accepted, {refused} refused");
-    // with room, three words at each of three positions; without, no mark more than there is
-    assert_eq!(accepted, 9 + 7);
+    // with room, six words at each of three positions; without, no modified mark more than there is
+    assert_eq!(accepted, 18 + 14);
 }
 
 /// A tick and a flush change the modified words and the total of outs, and no other word.

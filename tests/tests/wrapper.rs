@@ -56,6 +56,9 @@ fn answer_word(given: Answer) -> u32 {
         Answer::Purged { discarded } => word(answer::PURGED, u32::from(discarded)),
         Answer::Absent => word(answer::ABSENT, 0),
         Answer::Flushed { written } => word(answer::FLUSHED, written),
+        Answer::AllPinned => word(answer::ALL_PINNED, 0),
+        Answer::Pinned { pinned } => word(answer::PINNED, u32::from(pinned)),
+        Answer::PurgeRefused => word(answer::PURGE_REFUSED, 0),
         other => panic!("{other:?}"),
     }
 }
@@ -218,6 +221,8 @@ fn work_of(w: u32) -> Work {
         work::PURGE => Work::Purge(value(w)),
         work::FLUSH => Work::Flush,
         work::TICK => Work::Tick,
+        work::PIN => Work::Pin(value(w)),
+        work::UNPIN => Work::Unpin(value(w)),
         other => panic!("work of kind {other}"),
     }
 }
@@ -229,7 +234,7 @@ fn words_and_bytes(rng: &mut Rng, s: Settings) -> (Vec<u32>, Vec<u8>) {
     let mut incoming = words.iter().filter(|&&w| kind(w) == work::WRITE).count() * s.b as usize;
     match rng.below(12) {
         0 => words.resize(work::MOST_WORDS + 1, word(work::READ, 0)),
-        1 => words.push(word(rng.within(1, 3), s.m)),
+        1 => words.push(word(rng.pick(&histories::OF_A_BLOCK), s.m)),
         2 => incoming = incoming.saturating_sub(1),
         _ => incoming += histories::more(rng, 40),
     }

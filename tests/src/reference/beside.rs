@@ -4,9 +4,10 @@ use super::directory::{entry, header, kind, settings_of, value, Map, VALUE_BITS}
 use super::marks::Marks;
 use super::occupancy::{self, Table};
 use super::settings::directory_length;
-use super::stack::{self, answer, work, Lent, PlainStack};
+use super::stack::{self, answer, work, Found, Lent, PlainStack, Watch};
 use super::{fast_judge, judge};
 use crate::Settings;
+use std::collections::BTreeMap;
 use std::hint::black_box;
 
 pub type Batch = fn(&mut [u32], &mut [u8], &mut [u8], &[u32], &[u8], &mut [u32], &mut [u8]) -> u32;
@@ -41,12 +42,13 @@ pub const NUMBERS: usize = 13;
 #[derive(Clone, Debug, Default, PartialEq, Eq)]
 pub struct Seen {
     pub numbers: [u64; NUMBERS],
-    pub answers: [u64; 7],
+    pub answers: [u64; answer::KINDS],
     pub halved: u64,
     pub written_out: u64,
     pub most_chains: u32,
     pub highest_victim: u32,
     pub ticks: Ticks,
+    pub pins: Pins,
     pub looks: u64,
     /// Looks that were lent more than the store.
     pub longer_looks: u64,
@@ -90,6 +92,105 @@ impl Ticks {
     }
 }
 
+/// What pins do to a word. A miss of a full cache is one of the first five.
+#[derive(Clone, Copy, Debug, PartialEq, Eq, PartialOrd, Ord)]
+pub enum Met {
+    SmallestCount,
+    LeastRecentOld,
+    LeastRecent,
+    ReadRefused,
+    WriteRefused,
+    /// A pinned resident was passed over that would have been the victim.
+    Passed,
+    /// A block entered although all residents were pinned.
+    EnteredBesidePinned,
+    PurgeRefused,
+}
+
+/// How often each was met.
+#[derive(Clone, Debug, Default, PartialEq, Eq)]
+pub struct Pins(pub BTreeMap<Met, u64>);
+
+impl Pins {
+    const ALL: [Met; 8] = [
+        Met::SmallestCount,
+        Met::LeastRecentOld,
+        Met::LeastRecent,
+        Met::ReadRefused,
+        Met::WriteRefused,
+        Met::Passed,
+        Met::EnteredBesidePinned,
+        Met::PurgeRefused,
+    ];
+
+    fn count(&mut self, met: Met) {
+        *self.0.entry(met).or_default() += 1;
+    }
+
+    /// A read or a write whose block is absent.
+    fn miss(&mut self, stack: &PlainStack, w: u32) {
+        let all_pinned = stack.residents.iter().all(|resident| resident.marks.pinned);
+        if stack.residents.len() < stack.settings.n as usize {
+            if all_pinned && !stack.residents.is_empty() {
+                self.count(Met::EnteredBesidePinned);
+            }
+            return;
+        }
+        let Some((position, found)) = stack.victim() else {
+            assert!(all_pinned);
+            return self.count(if kind(w) == work::READ { Met::ReadRefused } else { Met::WriteRefused });
+        };
+        self.count(match found {
+            Found::SmallestCount => Met::SmallestCount,
+            Found::LeastRecentOld => Met::LeastRecentOld,
+            Found::LeastRecent => Met::LeastRecent,
+        });
+        if position != without_pins(stack) {
+            self.count(Met::Passed);
+        }
+    }
+
+    fn add(&mut self, other: &Pins) {
+        other.0.iter().for_each(|(&met, times)| *self.0.entry(met).or_default() += times);
+    }
+
+    /// Whether each of them was met so often.
+    pub fn all_above(&self, times: u64) -> bool {
+        Self::ALL.iter().all(|met| self.0.get(met).is_some_and(|&met| met > times))
+    }
+}
+
+/// The position of the victim if no resident were pinned: the base's rule, for full caches.
+pub fn without_pins(stack: &PlainStack) -> usize {
+    let last = stack.residents.len() - 1;
+    let old = stack.first_old()..=last;
+    let smallest = old.clone().map(|p| stack.residents[p].count).min().unwrap();
+    if smallest > stack.settings.cmax {
+        return last;
+    }
+    old.rev().find(|&p| stack.residents[p].count == smallest).unwrap()
+}
+
+/// Counts along a batch.
+struct Counters<'a> {
+    ticks: &'a mut Ticks,
+    pins: &'a mut Pins,
+}
+
+impl Watch for Counters<'_> {
+    fn before(&mut self, stack: &PlainStack, w: u32) {
+        if matches!(kind(w), work::READ | work::WRITE) && stack.position(value(w)).is_none() {
+            self.pins.miss(stack, w);
+        }
+    }
+    fn after(&mut self, stack: &PlainStack, w: u32, answer: u32) {
+        self.ticks.count(stack, w, answer);
+        if kind(answer) == answer::PURGE_REFUSED {
+            self.pins.count(Met::PurgeRefused);
+        }
+    }
+}
+
 impl Seen {
     pub fn add(&mut self, other: &Seen) {
         self.numbers.iter_mut().zip(other.numbers).for_each(|(sum, times)| *sum += times);
@@ -99,6 +200,7 @@ impl Seen {
         self.most_chains = self.most_chains.max(other.most_chains);
         self.highest_victim = self.highest_victim.max(other.highest_victim);
         self.ticks.add(other.ticks);
+        self.pins.add(&other.pins);
         self.looks += other.looks;
         self.longer_looks += other.longer_looks;
     }
@@ -127,8 +229,9 @@ pub struct Beside {
     /// Whether the quadratic judge is asked too.
     pub judged: bool,
     pub seen: Seen,
-    /// Of the last accepted batch.
+    /// Of the last accepted batch, and its outgoing buffer whole.
     pub last_answers: Vec<u32>,
+    pub last_outgoing: Vec<u8>,
 }
 
 impl Beside {
@@ -138,9 +241,8 @@ impl Beside {
         assert_eq!((tested.fresh)(s, &mut dir), 0, "fresh declined {s:?}");
         let length = directory_length(s) as usize;
         assert!(dir[length..] == earlier[length..], "fresh changed words past the directory: {s:?}");
-        let stack = PlainStack::new(s, store.clone());
-        let beside =
-            Beside { tested, dir, data, store, stack, judged: true, seen: Seen::default(), last_answers: vec![] };
+        let stack = PlainStack::new(s, store);
+        let beside = Beside { judged: true, ..Beside::taken(tested, dir, data, stack) };
         beside.check_state("fresh");
         beside
     }
@@ -154,13 +256,12 @@ impl Beside {
             marks: Marks::of_word(plan.residents[p].marks),
             bytes: data[(e as usize - 1) * b..e as usize * b].to_vec(),
         };
-        let mut stack = PlainStack::new(plan.settings, store.clone());
+        let mut stack = PlainStack::new(plan.settings, store);
         stack.residents = plan.arrangement.entries.iter().enumerate().map(held).collect();
         let t = plan.totals;
         (stack.reads, stack.writes, stack.ins, stack.outs) = (t.reads, t.writes, t.ins, t.outs);
         let dir = [&plan.build(), past].concat();
-        let beside =
-            Beside { tested, dir, data, store, stack, judged: true, seen: Seen::default(), last_answers: vec![] };
+        let beside = Beside { judged: true, ..Beside::taken(tested, dir, data, stack) };
         beside.check_state("a built directory");
         beside
     }
@@ -168,17 +269,37 @@ impl Beside {
     /// Goes on from where another list stands.
     pub fn taken(tested: Tested, dir: Vec<u32>, data: Vec<u8>, stack: PlainStack) -> Beside {
         let store = stack.store.clone();
-        Beside { tested, dir, data, store, stack, judged: false, seen: Seen::default(), last_answers: vec![] }
+        let (seen, last_answers, last_outgoing) = (Seen::default(), vec![], vec![]);
+        Beside { tested, dir, data, store, stack, judged: false, seen, last_answers, last_outgoing }
     }
 
     /// The same batch to both; the number returned. Untouched parts are compared as well: buffers are compared whole.
     pub fn call(&mut self, call: &Call) -> u32 {
         let (mut answers, mut outgoing) = (call.answers.clone(), call.outgoing.clone());
-        let ticks = &mut self.seen.ticks;
-        let watch = |after: &PlainStack, w: u32, answer: u32| ticks.count(after, w, answer);
+        let watch = &mut Counters { ticks: &mut self.seen.ticks, pins: &mut self.seen.pins };
         let expected =
             self.stack.watched_batch(call.lent, &call.work, &call.incoming, &mut answers, &mut outgoing, watch);
         self.run(call, expected, &answers, &outgoing)
+    }
+
+    /// A call whose j-th write brings bytes that are all j; there are no zeros in its outgoing buffer.
+    pub fn exact(&self, work: &[u32]) -> Call {
+        let b = self.stack.settings.b as usize;
+        let incoming = (0..work.len() * b).map(|i| (i / b + 1) as u8).collect();
+        let (answers, outgoing) = (vec![0; work.len()], vec![0xee; work.len() * b]);
+        Call { lent: self.stack.whole(), work: work.to_vec(), incoming, answers, outgoing }
+    }
+
+    /// That call, accepted and compared with the plain stack's; the answers as kind and value.
+    pub fn answered(&mut self, work: &[u32]) -> Vec<(u32, u32)> {
+        let call = self.exact(work);
+        assert_eq!(self.call(&call), 0);
+        self.last_answers.iter().map(|&w| (kind(w), value(w))).collect()
+    }
+
+    /// The modified words of the residents, most recent first.
+    pub fn modified_words(&self) -> Vec<u32> {
+        residents(&self.dir, &self.data).iter().map(|resident| resident.marks.word()).collect()
     }
 
     /// The batch over other directory words, which are not sound: 6, and nothing changes. No figures either.
@@ -232,7 +353,7 @@ impl Beside {
         self.check_other_bytes(&before.1, call, &outgoing);
         answers.truncate(call.work.len());
         answers.iter().for_each(|&w| self.seen.answered(w));
-        self.last_answers = answers;
+        (self.last_answers, self.last_outgoing) = (answers, outgoing);
         0
     }
 

@@ -213,7 +213,7 @@ mod tests {
         let resident = |block, count, marks| Resident { block, count, marks };
         let plan = Plan {
             settings: BELT,
-            residents: vec![resident(9, 1, 0), resident(5, 2, 1), resident(7, 1, 3)],
+            residents: vec![resident(9, 1, 0), resident(5, 2, 4), resident(7, 1, 7)],
             totals: Totals { reads: 3, writes: 1 << 28, ins: 2, outs: 0 },
             arrangement: Arrangement { entries: vec![4, 1, 2], unused: vec![3], synonyms: vec![2, 0, 1] },
         };
@@ -225,7 +225,7 @@ mod tests {
         // chains 1, 2 and 3
         assert_eq!(words[header::LENGTH..header::LENGTH + 6], [4, 2, 1, 1, 0, 0].map(link));
         let entry_2 = plan.map().entry(2, 0);
-        assert_eq!(words[entry_2..entry_2 + 4], [7, 1, OLD, 3].map(number));
+        assert_eq!(words[entry_2..entry_2 + 4], [7, 1, OLD, 7].map(number));
         assert_eq!(words[entry_2 + 4..entry_2 + 8], [1, 0, 4, 0].map(link));
         assert!(judge::sound(&words));
     }

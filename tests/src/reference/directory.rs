@@ -46,7 +46,7 @@ pub mod entry {
     pub const BLOCK: usize = 0;
     pub const COUNT: usize = 1;
     pub const SECTION: usize = 2;
-    /// The marks: modified + 2 × seen.
+    /// The marks: modified + 2 × seen + 4 × pinned.
     pub const MODIFIED: usize = 3;
     pub const TOWARDS_HEAD: usize = 4;
     pub const TOWARDS_TAIL: usize = 5;

@@ -5,6 +5,7 @@ use super::directory::{entry, header, settings_of, Map};
 use super::directory::{LINK, MAX_VALUE, MIDDLE, NEW, NUMBER, OLD, VALUE_BITS};
 use super::fast_judge;
 use super::fnv;
+use super::marks::PINNED;
 use super::settings::{sum_limit, MAX_COUNT};
 use super::stack::{answer, work, MOST_TOTAL};
 use crate::Settings;
@@ -14,7 +15,7 @@ mod links;
 #[cfg(test)]
 mod tests;
 
-/// The modified word is the sum of these.
+/// The modified word is the sum of these and of `PINNED`.
 const MODIFIED: u32 = 1;
 const SEEN: u32 = 2;
 
@@ -56,7 +57,9 @@ fn run<const LOOP: bool>(
             work::WRITE => cache.write(block, incoming.next().unwrap()),
             work::PURGE => cache.purge(block),
             work::FLUSH => cache.flush(),
-            _ => cache.tick(),
+            work::TICK => cache.tick(),
+            work::PIN => cache.pin(block, PINNED),
+            _ => cache.pin(block, 0),
         };
     }
     cache.put_totals();
@@ -101,7 +104,7 @@ fn refusal(dir: &[u32], s: Settings, work: &[u32], incoming: usize, answers: usi
     for &w in work {
         let value = w & MAX_VALUE;
         let well_formed = match w >> VALUE_BITS {
-            work::READ | work::WRITE | work::PURGE => value < s.m,
+            work::READ | work::WRITE | work::PURGE | work::PIN | work::UNPIN => value < s.m,
             work::FLUSH | work::TICK => value == 0,
             _ => false,
         };
@@ -221,7 +224,10 @@ impl<'a, const LOOP: bool> Cache<'a, LOOP> {
         let answer = match find(self.words, self.map, block) {
             Some(e) => self.hit(e),
             None => {
-                let answer = self.enter(block);
+                let Some(answer) = self.enter(block) else {
+                    out.fill(0);
+                    return answer::ALL_PINNED << VALUE_BITS;
+                };
                 let (bytes, place) = (self.bytes_of(self.at(header::HEAD)), self.place(block));
                 copy::<LOOP>(&self.store[place], &mut self.data[bytes]);
                 self.totals.ins += 1;
@@ -236,12 +242,15 @@ impl<'a, const LOOP: bool> Cache<'a, LOOP> {
         self.totals.writes += 1;
         let answer = match find(self.words, self.map, block) {
             Some(e) => self.hit(e),
-            None => self.enter(block),
+            None => match self.enter(block) {
+                Some(answer) => answer,
+                None => return answer::ALL_PINNED << VALUE_BITS,
+            },
         };
         let e = self.at(header::HEAD);
         let place = self.bytes_of(e);
         copy::<LOOP>(bytes, &mut self.data[place]);
-        // a further write keeps the seen mark
+        // a further write keeps the other marks
         self.words[self.map.entry(e, entry::MODIFIED)] |= MODIFIED;
         self.halved_after(answer)
     }
@@ -254,10 +263,11 @@ impl<'a, const LOOP: bool> Cache<'a, LOOP> {
         answer::HIT << VALUE_BITS | (count + u32::from(rises))
     }
 
-    /// The block's entry is at position 0 afterwards, count 1 and unmodified; its bytes are still to come.
-    fn enter(&mut self, block: u32) -> u32 {
+    /// The block's entry is at position 0 afterwards, count 1 and without a mark; its bytes are still to come. None
+    /// where all residents are pinned.
+    fn enter(&mut self, block: u32) -> Option<u32> {
         let (e, answer) = match self.at(header::FIRST_UNUSED) {
-            0 => self.take_victim(),
+            0 => self.take_victim()?,
             e => {
                 self.set_link(header::FIRST_UNUSED, self.of(e, entry::TOWARDS_TAIL));
                 self.put_in_front(e);
@@ -270,37 +280,56 @@ impl<'a, const LOOP: bool> Cache<'a, LOOP> {
         let bucket = bucket_of(self.map, block);
         self.link_of(e, entry::SYNONYM, self.at(bucket));
         self.set_link(bucket, e);
-        answer
+        Some(answer)
     }
 
-    fn take_victim(&mut self) -> (u32, u32) {
-        let (victim, chains) = self.victim();
+    fn take_victim(&mut self) -> Option<(u32, u32)> {
+        let (victim, chains) = self.victim()?;
         let block = self.of(victim, entry::BLOCK);
         let mut value = block + answer::CHAIN * chains;
-        if self.of(victim, entry::MODIFIED) != 0 {
+        if self.of(victim, entry::MODIFIED) & MODIFIED != 0 {
             self.write_out(victim);
             value += answer::WRITTEN_OUT;
         }
         self.unlist(victim);
         self.move_to_front(victim);
-        (victim, answer::REPLACED << VALUE_BITS | value)
+        Some((victim, answer::REPLACED << VALUE_BITS | value))
     }
 
-    /// A chain's tail has the greatest position of its count: if it isn't old, none of the chain is.
-    fn victim(&self) -> (u32, u32) {
-        for count in 1..=self.s.cmax {
-            let last = self.at(self.map.chain_tail(count));
-            if last != 0 && self.of(last, entry::SECTION) == OLD {
-                return (last, count);
+    fn is_pinned(&self, e: u32) -> bool {
+        self.of(e, entry::MODIFIED) & PINNED != 0
+    }
+
+    /// The first unpinned entry from `e` on along a link word, as long as `within` says.
+    fn first_unpinned(&self, mut e: u32, link_word: usize, within: impl Fn(u32) -> bool) -> Option<u32> {
+        while e != 0 && within(e) {
+            if !self.is_pinned(e) {
+                return Some(e);
             }
+            e = self.of(e, link_word);
         }
-        (self.at(header::TAIL), self.s.cmax)
+        None
+    }
+
+    /// From a chain's tail on positions fall: behind the first that isn't old, none of the chain is. Where no chain has
+    /// one, the old ones are still the first to be met from the stack's tail on.
+    fn victim(&self) -> Option<(u32, u32)> {
+        let old = |e: u32| self.of(e, entry::SECTION) == OLD;
+        let of_chain = |count: u32| {
+            let last = self.at(self.map.chain_tail(count));
+            self.first_unpinned(last, entry::CHAIN_TOWARDS_HEAD, old).map(|e| (e, count))
+        };
+        let least_recent = || self.first_unpinned(self.at(header::TAIL), entry::TOWARDS_HEAD, |_| true);
+        (1..=self.s.cmax).find_map(of_chain).or_else(|| Some((least_recent()?, self.s.cmax)))
     }
 
     fn purge(&mut self, block: u32) -> u32 {
         let Some(e) = find(self.words, self.map, block) else {
             return answer::ABSENT << VALUE_BITS;
         };
+        if self.is_pinned(e) {
+            return answer::PURGE_REFUSED << VALUE_BITS;
+        }
         let modified = self.of(e, entry::MODIFIED) & MODIFIED;
         self.leave(e);
         self.recount(e, 0);
@@ -315,13 +344,21 @@ impl<'a, const LOOP: bool> Cache<'a, LOOP> {
         answer::PURGED << VALUE_BITS | modified
     }
 
+    /// Pins by `PINNED`, unpins by 0.
+    fn pin(&mut self, block: u32, mark: u32) -> u32 {
+        let Some(e) = find(self.words, self.map, block) else {
+            return answer::ABSENT << VALUE_BITS;
+        };
+        self.number_of(e, entry::MODIFIED, self.of(e, entry::MODIFIED) & !PINNED | mark);
+        answer::PINNED << VALUE_BITS | u32::from(mark != 0)
+    }
+
     fn flush(&mut self) -> u32 {
         let mut written = 0;
         let mut e = self.at(header::HEAD);
         while e != 0 {
-            if self.of(e, entry::MODIFIED) != 0 {
+            if self.of(e, entry::MODIFIED) & MODIFIED != 0 {
                 self.write_out(e);
-                self.number_of(e, entry::MODIFIED, 0);
                 written += 1;
             }
             e = self.of(e, entry::TOWARDS_TAIL);
@@ -333,12 +370,11 @@ impl<'a, const LOOP: bool> Cache<'a, LOOP> {
         let mut written = 0;
         let mut e = self.at(header::HEAD);
         while e != 0 {
-            match self.of(e, entry::MODIFIED) {
+            match self.of(e, entry::MODIFIED) & !PINNED {
                 0 => {}
-                MODIFIED => self.number_of(e, entry::MODIFIED, MODIFIED + SEEN),
+                MODIFIED => self.words[self.map.entry(e, entry::MODIFIED)] |= SEEN,
                 _ => {
                     self.write_out(e);
-                    self.number_of(e, entry::MODIFIED, 0);
                     written += 1;
                 }
             }
@@ -350,6 +386,8 @@ impl<'a, const LOOP: bool> Cache<'a, LOOP> {
     fn write_out(&mut self, e: u32) {
         let (bytes, place) = (self.bytes_of(e), self.place(self.of(e, entry::BLOCK)));
         copy::<LOOP>(&self.data[bytes], &mut self.store[place]);
+        // a pin stays
+        self.number_of(e, entry::MODIFIED, self.of(e, entry::MODIFIED) & PINNED);
         self.totals.outs += 1;
     }
 

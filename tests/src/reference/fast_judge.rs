@@ -4,6 +4,7 @@
 use super::directory::{entry, header, LINK, MAX_VALUE, MIDDLE, NEW, NUMBER, OLD, VALUE_BITS};
 use super::directory::{settings_of, Map};
 use super::fnv;
+use super::marks::PINNED;
 use super::settings::{self, MAX_COUNT};
 use crate::Settings;
 
@@ -89,8 +90,8 @@ impl<'a> Check<'a> {
                 || resident[entry::BLOCK] >= self.s.m
                 || !(1..=MAX_COUNT).contains(&count)
                 || resident[entry::SECTION] != section
-                // 0 alone of the even ones, 1 and 3 of the odd ones
-                || marks > 3 * (marks & 1)
+                // a pin apart, 0 alone of the even ones, 1 and 3 of the odd ones
+                || marks & !PINNED > 3 * (marks & 1)
                 || !self.chained(e, &resident, &mut chain_tails)
             {
                 return false;

@@ -108,9 +108,12 @@ pub fn work_words(rng: &mut Rng, s: Settings, length: usize) -> Vec<u32> {
     if manner == 0 {
         return samples::work_words(rng, s, length);
     }
-    let hot = rng.within(1, s.n.min(s.m));
+    let (hot, pinning) = (rng.within(1, s.n.min(s.m)), samples::Pinning::drawn(rng));
     let one = |rng: &mut Rng| {
         let block = if manner == 1 || rng.one_in(3) { rng.within(0, s.m - 1) } else { s.m - rng.within(1, hot) };
+        if let Some(w) = pinning.word(rng, block) {
+            return w;
+        }
         match rng.below(16) {
             // rare in large caches, so that modified victims are met
             _ if rng.one_in(u64::from(s.n.max(16))) => word(rng.pick(&[work::FLUSH, work::TICK, work::TICK]), 0),
@@ -136,6 +139,9 @@ pub fn call_of(rng: &mut Rng, beside: &Beside, work: Vec<u32>) -> Call {
     Call { lent, work, incoming, answers, outgoing }
 }
 
+/// Kinds of words that name a block.
+pub const OF_A_BLOCK: [u32; 5] = [work::READ, work::WRITE, work::PURGE, work::PIN, work::UNPIN];
+
 /// Spoils one respect of a call, so that 7, 12, 8, 9 or 10 is due, alone or together.
 pub fn spoil(rng: &mut Rng, beside: &Beside, call: &mut Call) {
     let (s, whole) = (beside.stack.settings, beside.stack.whole());
@@ -153,9 +159,9 @@ pub fn spoil(rng: &mut Rng, beside: &Beside, call: &mut Call) {
         4 => {
             let high = rng.pick(&[s.m, s.m + 1, MAX_VALUE]);
             let wrong = match rng.below(4) {
-                0 => word(rng.pick(&[0, 6, 7, 8, 15]), 0),
+                0 => word(rng.pick(&[0, 8, 9, 10, 15]), 0),
                 1 => word(rng.pick(&[work::FLUSH, work::TICK]), rng.pick(&[1, s.m - 1, MAX_VALUE]).max(1)),
-                _ => word(rng.within(1, 3), high),
+                _ => word(rng.pick(&OF_A_BLOCK), high),
             };
             let at = rng.below(call.work.len() as u64 + 1) as usize;
             call.work.insert(at, wrong);

@@ -96,7 +96,7 @@ impl Judge<'_> {
         hold(blocks.iter().all(|&block| block < self.s.m))?;
         // counts are 1 to 65,535
         hold(stack.iter().all(|&e| (1..=MAX_COUNT).contains(&self.count(e))))?;
-        // modified + 2 × seen, where seen needs modified
+        // modified + 2 × seen + 4 × pinned, where seen needs modified
         hold(stack.iter().all(|&e| marks::LEGAL.contains(&self.of(e, entry::MODIFIED))))
     }
 

@@ -18,7 +18,7 @@ pub fn class(count: u32) -> usize {
     ENDS.iter().filter(|&&end| end < count).count()
 }
 
-/// The table of residents, each with its count and its modified mark; a seen mark makes no difference.
+/// The table of residents, each with its count and its modified mark; the other marks make no difference.
 pub fn of_residents(residents: impl Iterator<Item = (u32, bool)>) -> Table {
     let mut table = NONE;
     for (count, modified) in residents {

@@ -2,7 +2,7 @@
 use super::builder::{home, Arrangement, Plan, Resident, Totals};
 use super::crowding;
 use super::directory::word;
-use super::marks;
+use super::marks::{self, PINNED};
 use super::rng::Rng;
 use super::settings::{sum_limit, MAX_AMAX, MAX_B, MAX_CMAX, MAX_COUNT, MAX_M};
 use super::stack::work;
@@ -71,6 +71,7 @@ pub fn plan_with(rng: &mut Rng, s: Settings, blocks: Vec<u32>) -> Plan {
     let marked = |block| Resident { block, count: 1, marks: rng.pick(&marks::LEGAL) };
     let mut residents: Vec<Resident> = blocks.into_iter().map(marked).collect();
     raise_counts(rng, s, &mut residents);
+    pin(rng, s, &mut residents);
     let modified = residents.iter().filter(|resident| resident.is_modified()).count() as u64;
     Plan { settings: s, totals: totals(rng, modified), arrangement: arrangement(rng, s.n, r), residents }
 }
@@ -100,6 +101,22 @@ fn different_blocks(rng: &mut Rng, s: Settings, r: u32, wanted: impl Fn(u32) -> 
         blocks.push(block);
     }
     blocks
+}
+
+/// Pins none, all, all but one, all old ones, or leaves the pins that were drawn.
+fn pin(rng: &mut Rng, s: Settings, residents: &mut [Resident]) {
+    let (manner, spared) = (rng.below(6), rng.below(residents.len().max(1) as u64) as usize);
+    let first_old = (s.n - s.nold) as usize;
+    for (position, resident) in residents.iter_mut().enumerate() {
+        let pinned = match manner {
+            0 => false,
+            1 => true,
+            2 => position != spared,
+            3 => position >= first_old || resident.marks >= PINNED,
+            _ => resident.marks >= PINNED,
+        };
+        resident.marks = resident.marks % PINNED + if pinned { PINNED } else { 0 };
+    }
 }
 
 /// Spends some or all of what the sum may rise by.
@@ -142,16 +159,41 @@ fn totals(rng: &mut Rng, modified: u64) -> Totals {
     Totals { reads, writes, ins, outs }
 }
 
+/// How many of 16 words pin and unpin: none, some, or so many that pinned residents go, or fill the cache.
+const PINS: [(u64, u64); 9] = [(0, 0), (0, 0), (1, 1), (1, 1), (0, 3), (1, 4), (1, 4), (4, 1), (8, 0)];
+
+/// How often words pin and unpin.
+#[derive(Clone, Copy)]
+pub struct Pinning(u64, u64);
+
+impl Pinning {
+    pub fn drawn(rng: &mut Rng) -> Pinning {
+        let (pins, unpins) = rng.pick(&PINS);
+        Pinning(pins, unpins)
+    }
+    /// A word that pins or unpins the block, or none.
+    pub fn word(self, rng: &mut Rng, block: u32) -> Option<u32> {
+        match rng.below(16) {
+            drawn if drawn < self.0 => Some(word(work::PIN, block)),
+            drawn if drawn < self.0 + self.1 => Some(word(work::UNPIN, block)),
+            _ => None,
+        }
+    }
+}
+
 /// Well-formed work words on few blocks, so that most are hits, or on many, so that most replace.
 pub fn work_words(rng: &mut Rng, s: Settings, length: usize) -> Vec<u32> {
     let few = if rng.one_in(2) { s.n } else { 3 * s.n };
-    let blocks = rng.within(1, few).min(s.m);
-    let mut one = || match rng.below(22) {
-        0 => word(work::FLUSH, 0),
-        1..=2 => word(work::TICK, 0),
-        3..=4 => word(work::PURGE, rng.within(0, blocks - 1)),
-        5..=10 => word(work::WRITE, rng.within(0, blocks - 1)),
-        _ => word(work::READ, rng.within(0, blocks - 1)),
+    let (blocks, pinning) = (rng.within(1, few).min(s.m), Pinning::drawn(rng));
+    let mut one = || {
+        let block = rng.within(0, blocks - 1);
+        pinning.word(rng, block).unwrap_or_else(|| match rng.below(22) {
+            0 => word(work::FLUSH, 0),
+            1..=2 => word(work::TICK, 0),
+            3..=4 => word(work::PURGE, block),
+            5..=10 => word(work::WRITE, block),
+            _ => word(work::READ, block),
+        })
     };
     (0..length).map(|_| one()).collect()
 }

@@ -14,7 +14,21 @@ pub mod work {
     pub const PURGE: u32 = 3;
     pub const FLUSH: u32 = 4;
     pub const TICK: u32 = 5;
+    pub const PIN: u32 = 6;
+    pub const UNPIN: u32 = 7;
     pub const MOST_WORDS: usize = 1_024;
+}
+
+/// Work words of block 0, to which a block is added.
+pub mod words {
+    use super::{word, work};
+    pub const READ: u32 = word(work::READ, 0);
+    pub const WRITE: u32 = word(work::WRITE, 0);
+    pub const PURGE: u32 = word(work::PURGE, 0);
+    pub const FLUSH: u32 = word(work::FLUSH, 0);
+    pub const TICK: u32 = word(work::TICK, 0);
+    pub const PIN: u32 = word(work::PIN, 0);
+    pub const UNPIN: u32 = word(work::UNPIN, 0);
 }
 
 /// Kinds of answer words, and what their values add up.
@@ -26,6 +40,14 @@ pub mod answer {
     pub const ABSENT: u32 = 5;
     /// Of a flush or a tick: how many were written out.
     pub const FLUSHED: u32 = 6;
+    /// Of a read or a write that found all N residents pinned.
+    pub const ALL_PINNED: u32 = 7;
+    /// Of a pin or an unpin: 1 if the block is pinned afterwards.
+    pub const PINNED: u32 = 8;
+    /// Of a purge of a pinned block.
+    pub const PURGE_REFUSED: u32 = 9;
+    /// The kinds, with none of 0.
+    pub const KINDS: usize = 10;
     /// Of a hit or an entered block: counts were halved.
     pub const HALVED: u32 = 1 << 26;
     /// Of a replaced block: one chain looked at.
@@ -58,6 +80,29 @@ pub struct PlainStack {
     pub outs: u64,
 }
 
+/// By which of the three rules a victim is found.
+#[derive(Clone, Copy, Debug, PartialEq, Eq)]
+pub enum Found {
+    /// The old section's unpinned resident of smallest count up to Cmax.
+    SmallestCount,
+    /// The old section's least recent unpinned one.
+    LeastRecentOld,
+    /// The least recent unpinned one anywhere.
+    LeastRecent,
+}
+
+/// What is shown the stack on both sides of each word of a batch.
+pub trait Watch {
+    fn before(&mut self, stack: &PlainStack, w: u32);
+    fn after(&mut self, stack: &PlainStack, w: u32, answer: u32);
+}
+
+/// Nobody watches.
+impl Watch for () {
+    fn before(&mut self, _: &PlainStack, _: u32) {}
+    fn after(&mut self, _: &PlainStack, _: u32, _: u32) {}
+}
+
 /// How many bytes of data and store a call is lent, from their first byte.
 #[derive(Clone, Copy, Debug, PartialEq, Eq)]
 pub struct Lent {
@@ -80,13 +125,13 @@ impl PlainStack {
     pub fn batch(
         &mut self, lent: Lent, work: &[u32], incoming: &[u8], answers: &mut [u32], outgoing: &mut [u8],
     ) -> u32 {
-        self.watched_batch(lent, work, incoming, answers, outgoing, |_, _, _| {})
+        self.watched_batch(lent, work, incoming, answers, outgoing, &mut ())
     }
 
-    /// The same; after each word, `watch` is shown the stack, the word and its answer.
+    /// The same under watch.
     pub fn watched_batch(
         &mut self, lent: Lent, work: &[u32], incoming: &[u8], answers: &mut [u32], outgoing: &mut [u8],
-        mut watch: impl FnMut(&PlainStack, u32, u32),
+        watch: &mut impl Watch,
     ) -> u32 {
         let refusal = self.refusal(lent, work, incoming.len(), answers.len(), outgoing.len());
         if refusal != 0 {
@@ -97,14 +142,16 @@ impl PlainStack {
         let mut outgoing = outgoing.chunks_exact_mut(b);
         for (answer, &w) in answers.iter_mut().zip(work) {
             let block = value(w);
+            watch.before(self, w);
             *answer = match kind(w) {
                 work::READ => self.read(block, outgoing.next().unwrap()),
                 work::WRITE => self.write(block, incoming.next().unwrap()),
                 work::PURGE => self.purge(block),
                 work::FLUSH => self.flush(),
-                _ => self.tick(),
+                work::TICK => self.tick(),
+                k => self.pin(block, k == work::PIN),
             };
-            watch(self, w, *answer);
+            watch.after(self, w, *answer);
         }
         0
     }
@@ -133,7 +180,7 @@ impl PlainStack {
 
     fn well_formed(&self, w: u32) -> bool {
         match kind(w) {
-            work::READ | work::WRITE | work::PURGE => value(w) < self.settings.m,
+            work::READ | work::WRITE | work::PURGE | work::PIN | work::UNPIN => value(w) < self.settings.m,
             work::FLUSH | work::TICK => value(w) == 0,
             _ => false,
         }
@@ -145,7 +192,10 @@ impl PlainStack {
             Some(p) => self.hit(p),
             None => {
                 // what a victim is written out to is in the store before the block comes in
-                let answer = self.make_room();
+                let Some(answer) = self.make_room() else {
+                    out.fill(0);
+                    return word(answer::ALL_PINNED, 0);
+                };
                 self.ins += 1;
                 let bytes = self.store[self.place(block)].to_vec();
                 self.enter(block, bytes);
@@ -161,7 +211,9 @@ impl PlainStack {
         let answer = match self.position(block) {
             Some(p) => self.hit(p),
             None => {
-                let answer = self.make_room();
+                let Some(answer) = self.make_room() else {
+                    return word(answer::ALL_PINNED, 0);
+                };
                 self.enter(block, Vec::new());
                 answer
             }
@@ -174,7 +226,19 @@ impl PlainStack {
 
     fn purge(&mut self, block: u32) -> u32 {
         match self.position(block) {
+            Some(p) if self.residents[p].marks.pinned => word(answer::PURGE_REFUSED, 0),
             Some(p) => word(answer::PURGED, u32::from(self.residents.remove(p).marks.modified)),
+            None => word(answer::ABSENT, 0),
+        }
+    }
+
+    /// Pins or unpins a block. Order and counts stay.
+    fn pin(&mut self, block: u32, pinned: bool) -> u32 {
+        match self.position(block) {
+            Some(p) => {
+                self.residents[p].marks.pinned = pinned;
+                word(answer::PINNED, u32::from(pinned))
+            }
             None => word(answer::ABSENT, 0),
         }
     }
@@ -206,7 +270,7 @@ impl PlainStack {
         word(answer::FLUSHED, written)
     }
 
-    fn position(&self, block: u32) -> Option<usize> {
+    pub fn position(&self, block: u32) -> Option<usize> {
         self.residents.iter().position(|resident| resident.block == block)
     }
 
@@ -224,41 +288,49 @@ impl PlainStack {
         self.residents.insert(0, Resident { block, count: 1, marks: Marks::NONE, bytes });
     }
 
-    /// The answer of a block that is about to enter; with N residents, one leaves.
-    fn make_room(&mut self) -> u32 {
+    /// The answer of a block that is about to enter; with N residents, one leaves. None if all N are pinned.
+    fn make_room(&mut self) -> Option<u32> {
         if self.residents.len() < self.settings.n as usize {
-            return word(answer::ENTERED, 0);
+            return Some(word(answer::ENTERED, 0));
         }
         let chains = self.chains_looked_at();
-        let position = self.victim();
+        let (position, _) = self.victim()?;
         let written_out = self.residents[position].marks.modified;
         if written_out {
             self.write_out(position);
         }
         let victim = self.residents.remove(position);
         let mark = if written_out { answer::WRITTEN_OUT } else { 0 };
-        word(answer::REPLACED, victim.block + answer::CHAIN * chains + mark)
+        Some(word(answer::REPLACED, victim.block + answer::CHAIN * chains + mark))
     }
 
-    fn first_old(&self) -> usize {
+    pub fn first_old(&self) -> usize {
         (self.settings.n - self.settings.nold) as usize
     }
 
-    /// The victim's position among N residents.
-    fn victim(&self) -> usize {
-        let last = self.residents.len() - 1;
-        let old = self.first_old()..=last;
-        let smallest = old.clone().map(|p| self.residents[p].count).min().unwrap();
-        if smallest > self.settings.cmax {
-            return last;
-        }
-        old.rev().find(|&p| self.residents[p].count == smallest).unwrap()
+    /// The unpinned positions from `first` on, the greatest first.
+    fn unpinned_from(&self, first: usize) -> impl Iterator<Item = usize> + '_ {
+        (first..self.residents.len()).rev().filter(|&p| !self.residents[p].marks.pinned)
     }
 
-    /// From the chain of count 1 to the first with an old resident, or all Cmax.
+    /// The victim's position among N residents, and how it is found.
+    pub fn victim(&self) -> Option<(usize, Found)> {
+        let count = |p: usize| self.residents[p].count;
+        let old = || self.unpinned_from(self.first_old());
+        let smallest = old().map(count).filter(|&count| count <= self.settings.cmax).min();
+        if let Some(smallest) = smallest {
+            return old().find(|&p| count(p) == smallest).map(|p| (p, Found::SmallestCount));
+        }
+        if let Some(p) = old().next() {
+            return Some((p, Found::LeastRecentOld));
+        }
+        self.unpinned_from(0).next().map(|p| (p, Found::LeastRecent))
+    }
+
+    /// From the chain of count 1 to the first with an unpinned old resident, or all Cmax.
     fn chains_looked_at(&self) -> u32 {
-        let has_old = |count: u32| self.residents[self.first_old()..].iter().any(|old| old.count == count);
-        (1..=self.settings.cmax).find(|&count| has_old(count)).unwrap_or(self.settings.cmax)
+        let has_one = |count: u32| self.unpinned_from(self.first_old()).any(|p| self.residents[p].count == count);
+        (1..=self.settings.cmax).find(|&count| has_one(count)).unwrap_or(self.settings.cmax)
     }
 
     /// The answer, after counts were halved if their sum exceeds Amax × N. A replaced block's answer has no mark: the
@@ -275,11 +347,11 @@ impl PlainStack {
         answer + answer::HALVED
     }
 
-    /// The bytes go to the store, and both marks are cleared.
+    /// The bytes go to the store, and all marks but a pin are cleared.
     fn write_out(&mut self, position: usize) {
         let place = self.place(self.residents[position].block);
         self.store[place].copy_from_slice(&self.residents[position].bytes);
-        self.residents[position].marks = Marks::NONE;
+        self.residents[position].marks = self.residents[position].marks.written_out();
         self.outs += 1;
     }
 

@@ -9,7 +9,7 @@ use cache_tests::reference::samples;
 use cache_tests::reference::settings::{sum_limit, MAX_AMAX, MAX_B, MAX_CMAX, MAX_COUNT, MAX_M, MAX_N};
 use cache_tests::Settings;
 
-pub const AIMED: [Aimed; 29] = [
+pub const AIMED: [Aimed; 31] = [
     unsound("same block twice", same_block_twice),
     unsound("block M", block_m),
     unsound("block beyond M", block_beyond_m),
@@ -17,11 +17,13 @@ pub const AIMED: [Aimed; 29] = [
     unsound("count 0", |plan, rng| with_count(plan, rng, 0)),
     unsound("count 65,536", |_, rng| high_count(rng, MAX_COUNT + 1)),
     sound("count 65,535", |_, rng| high_count(rng, MAX_COUNT)),
-    unsound("modified word 2", |plan, rng| with_marks(plan, rng, &[2])),
-    unsound("modified word 4 or more", |plan, rng| with_marks(plan, rng, &[4, 5, 6, 7, 8, 9, 11, 1 << 27, MAX_VALUE])),
-    sound("modified word 0, 1 or 3", |plan, rng| with_marks(plan, rng, &marks::LEGAL)),
+    unsound("modified word 2 or 6", |plan, rng| with_marks(plan, rng, &[2, 6])),
+    unsound("modified word 8 or more", |plan, rng| with_marks(plan, rng, &[8, 9, 11, 12, 13, 15, 1 << 27, MAX_VALUE])),
+    sound("modified word 0, 1, 3, 4, 5 or 7", |plan, rng| with_marks(plan, rng, &marks::LEGAL)),
     unsound("modified word of another kind", marks_of_a_kind),
     sound("seen is no second mark in the totals", all_seen),
+    sound("a pin is no mark in the totals", |plan, _| all_pinned(plan, 0)),
+    unsound("pinned residents, outs = writes + 1", |plan, _| all_pinned(plan, 1)),
     unsound("seen residents, outs + modified = writes + 1", one_seen_too_many),
     sound("sum at Amax x N", |plan, rng| with_sum(plan, rng, 0)),
     unsound("sum Amax x N + 1", |plan, rng| with_sum(plan, rng, 1)),
@@ -120,6 +122,14 @@ fn all_seen(plan: &Plan, _: &mut Rng) -> Option<Vec<u32>> {
 }
 fn one_seen_too_many(plan: &Plan, _: &mut Rng) -> Option<Vec<u32>> {
     seen_by_all(plan, 1)
+}
+
+/// Every resident has a pin alone, and the totals have room for no modified one.
+fn all_pinned(plan: &Plan, above: u64) -> Option<Vec<u32>> {
+    let mut plan = plan.clone();
+    plan.residents.iter_mut().for_each(|resident| resident.marks = marks::PINNED);
+    plan.totals = Totals { writes: 5, outs: 5 + above, ..plan.totals };
+    (!plan.residents.is_empty()).then(|| plan.build())
 }
 
 /// Counts that sum up to the limit and `above`.

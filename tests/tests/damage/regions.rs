@@ -59,7 +59,7 @@ pub fn changed(rng: &mut Rng, plan: &Plan, words: &[u32], address: usize) -> u32
             2 => words[address] ^ 1 << rng.below(32),
             3 => word(rng.within(0, 15), old),
             4 => same_kind(rng.within(0, plan.settings.n)),
-            5 => same_kind(rng.within(0, 3)),
+            5 => same_kind(rng.within(0, 8)),
             6 => rng.word(),
             // a value that stands somewhere else
             7 => same_kind(value(rng.pick(words))),

@@ -1,7 +1,7 @@
 //! The examples of the scope, those with a letter and the others, each beside the plain stack.
 use cache_tests::reference::beside::{Beside, Call};
 use cache_tests::reference::builder::{Arrangement, Plan, Resident, Totals};
-use cache_tests::reference::directory::{fresh_words, header, kind, value, word, MAX_VALUE};
+use cache_tests::reference::directory::{fresh_words, header, value, word, MAX_VALUE};
 use cache_tests::reference::rng::Rng;
 use cache_tests::reference::settings::directory_length;
 use cache_tests::reference::stack::{answer, work, Lent};
@@ -16,17 +16,8 @@ fn start(s: Settings, seed: u64) -> Beside {
 fn reads(blocks: &[u32]) -> Vec<u32> {
     blocks.iter().map(|&block| word(work::READ, block)).collect()
 }
-/// An accepted batch, compared with the plain stack's; the answers as kind and value.
 fn run(beside: &mut Beside, work: &[u32]) -> Vec<(u32, u32)> {
-    let call = exact(beside, work);
-    assert_eq!(beside.call(&call), 0);
-    beside.last_answers.iter().map(|&w| (kind(w), value(w))).collect()
-}
-fn exact(beside: &Beside, work: &[u32]) -> Call {
-    let b = beside.stack.settings.b as usize;
-    let incoming = (0..work.len() * b).map(|i| (i / b + 1) as u8).collect();
-    let (answers, outgoing) = (vec![0; work.len()], vec![0; work.len() * b]);
-    Call { lent: beside.stack.whole(), work: work.to_vec(), incoming, answers, outgoing }
+    beside.answered(work)
 }
 fn blocks(beside: &Beside) -> Vec<u32> {
     beside.stack.residents.iter().map(|resident| resident.block).collect()
@@ -130,7 +121,7 @@ fn sections_as_wide_as_the_cache() {
 #[test]
 fn words_of_a_batch() {
     let mut belt = start(BELT, 209);
-    let call = exact(&belt, &reads(&[3; 1_025]));
+    let call = belt.exact(&reads(&[3; 1_025]));
     assert_eq!(belt.call(&call), 8);
     let answers = run(&mut belt, &reads(&[3; 1_024]));
     // position 0 is new: no hit raises the count
@@ -184,9 +175,10 @@ fn numbers_in_the_order_of_the_table() {
     assert_eq!(number(call(Lent { data: 31, store: 513 }, many.clone(), 0, 0, 0)), 7);
     assert_eq!(number(call(Lent { store: 513, ..whole }, many.clone(), 0, 0, 0)), 12);
     assert_eq!(number(call(whole, many, 0, 0, 0)), 8);
-    let kinds = [word(0, 0), word(0, 1), word(6, 0), word(6, 1), word(7, 0), word(15, 1)];
-    let values = [word(1, 64), word(2, 64), word(3, 64), word(4, 1), word(5, 1), word(5, 63), word(5, MAX_VALUE)];
-    for w in kinds.into_iter().chain(values) {
+    let kinds = [word(0, 0), word(0, 1), word(8, 0), word(8, 1), word(9, 0), word(15, 1)];
+    let blocks = [1, 2, 3, 6, 7].map(|kind| word(kind, 64));
+    let values = [word(4, 1), word(5, 1), word(5, 63), word(5, MAX_VALUE)];
+    for w in kinds.into_iter().chain(blocks).chain(values) {
         assert_eq!(number(call(whole, vec![w], 0, 0, 0)), 9, "{w:#x}");
         assert_eq!(number(call(whole, vec![read, write, w], 8, 3, 8)), 9, "{w:#x}");
     }
@@ -199,5 +191,5 @@ fn numbers_in_the_order_of_the_table() {
         belt.call_over(damaged.clone(), &call(Lent { data: 0, store }, vec![0; 1_025], 0, 0, 0));
     }
     println!("numbers returned: {:?}", belt.seen.numbers);
-    assert_eq!(belt.seen.numbers, [1, 0, 0, 0, 0, 0, 3, 4, 1, 26, 3, 0, 1]);
+    assert_eq!(belt.seen.numbers, [1, 0, 0, 0, 0, 0, 3, 4, 1, 30, 3, 0, 1]);
 }

@@ -56,6 +56,8 @@ impl Watch {
         }
         let block = value(w);
         match kind(w) {
+            // what found all residents pinned, or was refused, has changed no block
+            _ if matches!(kind(answered), answer::ALL_PINNED | answer::PURGE_REFUSED) => {}
             work::WRITE => {
                 let ticks = *self.unsaved.entry(block).or_insert(0);
                 self.written_on += u64::from(ticks == 1);

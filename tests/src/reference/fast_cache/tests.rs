@@ -50,4 +50,5 @@ fn random_histories() {
     println!("{seen:?}");
     assert!(seen.answers[1..].iter().all(|&times| times > 500) && seen.halved > 500);
     assert!(seen.numbers.iter().all(|&times| times > 20) && seen.ticks.all_above(200), "{seen:?}");
+    assert!(seen.pins.all_above(200), "{seen:?}");
 }
