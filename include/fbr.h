@@ -41,7 +41,7 @@
  *    7  data below N * B or store below M * B bytes                          batch, look
  *   12  store above M * B bytes                                              batch, look
  *    8  more than 1,024 work words                                           batch
- *    9  a kind outside 1 to 5, a block of M or more, a flush or a tick       batch; look: a block of M or more
+ *    9  a kind outside 1 to 7, a block of M or more, a flush or a tick       batch; look: a block of M or more
  *       with a value
  *   10  answers, incoming or outgoing shorter than the batch needs           batch; totals: out below 4 numbers;
  *                                                                            occupancy: out below 16 words
@@ -54,8 +54,8 @@
 #include <stdint.h>
 
 /* The version, as a number for #if (major * 10000 + minor * 100 + patch) and as a text. */
-#define FBR_VERSION 500
-#define FBR_VERSION_TEXT "0.5.0"
+#define FBR_VERSION 600
+#define FBR_VERSION_TEXT "0.6.0"
 
 #ifdef __cplusplus
 extern "C" {
@@ -103,14 +103,16 @@ static inline const char *fbr_number_text(uint32_t number) {
 #define FBR_VALUE(word) ((uint32_t)(word) & UINT32_C(0x0fffffff))
 
 /*
- * Kinds of work words: read, write and purge have a block number as value, flush and tick have 0.
+ * Kinds of work words: flush and tick have the value 0, the others a block number.
  *   read, write   a block, through the cache
- *   purge         the block leaves the cache; bytes that are not in the store are given up
+ *   purge         the block leaves the cache, unless it is pinned; bytes that are not in the store are given up
  *   flush         writes out every modified resident
  *   tick          writes out every modified resident that has already seen a tick, and marks every other modified one
  *                 as having seen it: given at regular times, it keeps the store at most two periods behind
+ *   pin           the block, if it is resident, is neither replaced nor purged until it is unpinned
+ *   unpin         the block may leave again
  */
-enum { FBR_READ = 1, FBR_WRITE = 2, FBR_PURGE = 3, FBR_FLUSH = 4, FBR_TICK = 5 };
+enum { FBR_READ = 1, FBR_WRITE = 2, FBR_PURGE = 3, FBR_FLUSH = 4, FBR_TICK = 5, FBR_PIN = 6, FBR_UNPIN = 7 };
 
 /*
  * A work word. What does not fit never becomes another block's word: a value above 28 bits becomes the largest value
@@ -123,14 +125,29 @@ static inline uint32_t fbr_word(uint32_t kind, uint64_t value) {
 
 /*
  * Kinds of answer words and their values:
- *   hit       the count after any rise and before halving, plus 2^26 if counts were halved
- *   entered   an unused entry: 0, or 2^26 if counts were halved
- *   replaced  the victim's block + 2^18 * chains looked at + 2^25 if the victim was written out
- *   purged    1 if modified bytes were discarded, else 0
- *   absent    0
- *   flushed   how many blocks were written out, by a flush or by a tick; what a tick only marked does not count
+ *   hit            the count after any rise and before halving, plus 2^26 if counts were halved
+ *   entered        an unused entry: 0, or 2^26 if counts were halved
+ *   replaced       the victim's block + 2^18 * chains looked at + 2^25 if the victim was written out
+ *   purged         1 if modified bytes were discarded, else 0
+ *   absent         the block to purge, pin or unpin is not resident: 0
+ *   flushed        how many blocks were written out, by a flush or by a tick; what a tick only marked does not count
+ *   all pinned     the block is absent and all N residents are pinned, so it did not enter: 0. A read's bytes are zeros
+ *                  and no block was copied in, a write's bytes are used up and given up; only the total of reads or
+ *                  writes rises
+ *   pinned         of a pin or an unpin: 1 if the block is pinned afterwards, else 0
+ *   purge refused  the block to purge is pinned, and stays as it is: 0
  */
-enum { FBR_HIT = 1, FBR_ENTERED = 2, FBR_REPLACED = 3, FBR_PURGED = 4, FBR_ABSENT = 5, FBR_FLUSHED = 6 };
+enum {
+    FBR_HIT = 1,
+    FBR_ENTERED = 2,
+    FBR_REPLACED = 3,
+    FBR_PURGED = 4,
+    FBR_ABSENT = 5,
+    FBR_FLUSHED = 6,
+    FBR_ALL_PINNED = 7,
+    FBR_PINNED = 8,
+    FBR_PURGE_REFUSED = 9
+};
 
 /* The parts of an answer word, each for the kinds named. They take the whole word; yes is 1 and no is 0. */
 #define FBR_ANSWER_COUNT(answer) (FBR_VALUE(answer) & UINT32_C(0x03ffffff))    /* hit: the count */
@@ -140,6 +157,7 @@ enum { FBR_HIT = 1, FBR_ENTERED = 2, FBR_REPLACED = 3, FBR_PURGED = 4, FBR_ABSEN
 #define FBR_ANSWER_WRITTEN_OUT(answer) (FBR_VALUE(answer) >> 25 & UINT32_C(1)) /* replaced: the victim was modified */
 #define FBR_ANSWER_DISCARDED(answer) (FBR_VALUE(answer) & UINT32_C(1))         /* purged: modified bytes were lost */
 #define FBR_ANSWER_FLUSHED(answer) FBR_VALUE(answer)                           /* flushed: blocks written out */
+#define FBR_ANSWER_PINNED(answer) (FBR_VALUE(answer) & UINT32_C(1))            /* pinned: the block is pinned now */
 
 /*
  * Pointers for empty slices, as of a batch without writes or reads. Pass them with count 0 only: nothing is read or
@@ -163,7 +181,8 @@ uint32_t fbr_fresh(uint32_t n, uint32_t nnew, uint32_t nold, uint32_t cmax, uint
 
 /*
  * Runs the work words in order. The j-th write takes the j-th B bytes of incoming, the j-th read fills the j-th B
- * bytes of outgoing, and each work word gets one answer word. Buffer contents beyond these parts stay untouched.
+ * bytes of outgoing, whatever the answers are, and each work word gets one answer word. Buffer contents beyond these
+ * parts stay untouched.
  * Returns 0, or 6 to 12 and leaves all buffers as they were. After 0 the directory is sound again.
  */
 uint32_t fbr_batch(uint32_t *dir, size_t dir_len, uint8_t *data, size_t data_len, uint8_t *store, size_t store_len,

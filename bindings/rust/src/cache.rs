@@ -158,7 +158,7 @@ impl fmt::Debug for Cache {
 pub struct Ran {
     /// One answer for each work word.
     pub answers: Vec<Answer>,
-    /// The bytes read: B for each read, in order.
+    /// The bytes read: B for each read, in order; zeros for one answered [`Answer::AllPinned`].
     pub read: Vec<u8>,
     b: usize,
 }

@@ -57,7 +57,8 @@ impl Memory<'_> {
     /// Runs at most 1,024 work words in order.
     ///
     /// The j-th write takes the j-th B bytes of `incoming`, the j-th read fills the j-th B bytes of `outgoing`, and
-    /// each work word gets one answer word. The rest of `answers` and `outgoing` stays as it was.
+    /// each work word gets one answer word. A read answered [`Answer::AllPinned`](crate::Answer::AllPinned) has zeros
+    /// there. The rest of `answers` and `outgoing` stays as it was.
     ///
     /// # Errors
     ///

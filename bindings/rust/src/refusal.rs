@@ -27,7 +27,7 @@ pub enum Refusal {
     LongStore,
     /// 8: the batch has more than 1,024 work words.
     TooManyWords,
-    /// 9: a work word's kind is outside 1 to 5, a block is M or more, or a flush or a tick has a value.
+    /// 9: a work word's kind is outside 1 to 7, a block is M or more, or a flush or a tick has a value.
     BadWord,
     /// 10: answers, incoming or outgoing is shorter than the batch needs, or a look's buffer shorter than B.
     ShortBuffer,

@@ -33,7 +33,7 @@ impl Lent {
         let b = self.b;
         let words: Vec<u32> = work.iter().map(|w| w.word()).collect();
         let incoming: Vec<u8> = (0..work.len() * b).map(|i| (i / b + 101) as u8).collect();
-        let (mut answers, mut outgoing) = (vec![0; work.len()], vec![0; work.len() * b]);
+        let (mut answers, mut outgoing) = (vec![0; work.len()], vec![9; work.len() * b]);
         self.memory().batch(&words, &incoming, &mut answers, &mut outgoing)?;
         assert!(sound(&self.directory));
         outgoing.truncate(b * work.iter().filter(|w| matches!(w, Work::Read(_))).count());
@@ -138,17 +138,36 @@ fn ticks_write_out_what_has_seen_one() {
     assert_eq!(belt.answers(&words)[1..], [WROTE_NONE, wrote_one, hit(2), WROTE_NONE, wrote_one]);
 }
 
-/// A directory that has seen a tick is sound with modified words of 3 and with no others above 1.
+/// A pinned block is neither replaced nor purged; a read that finds all blocks pinned gives zeros, and a write's bytes
+/// are used up.
 #[test]
-fn the_modified_word_has_two_marks() {
+fn pinned_blocks_stay() {
+    let mut one = Lent::new(ONE);
+    let (pinned, unpinned) = (Answer::Pinned { pinned: true }, Answer::Pinned { pinned: false });
+    let words = [Work::Pin(3), Work::Write(3), Work::Pin(3), Work::Pin(3), Work::Purge(3)];
+    assert_eq!(one.answers(&words), [Answer::Absent, ENTERED, pinned, pinned, Answer::PurgeRefused]);
+    let words = [Work::Read(5), Work::Write(5), Work::Write(3), Work::Read(3)];
+    let (answers, outgoing) = one.run(&words).unwrap();
+    assert_eq!(answers, [Answer::AllPinned, Answer::AllPinned, hit(2), hit(3)]);
+    assert_eq!(outgoing, [[0; 8], [102; 8]].concat());
+    assert_eq!(one.totals(), Totals { reads: 2, writes: 3, ins: 0, outs: 0 });
+    let words = [Work::Flush, Work::Unpin(3), Work::Unpin(5), Work::Purge(3), Work::Unpin(3)];
+    let purged = Answer::Purged { discarded: false };
+    assert_eq!(one.answers(&words), [Answer::Flushed { written: 1 }, unpinned, Answer::Absent, purged, Answer::Absent]);
+    assert_eq!(one.store[24..32], [102; 8]);
+}
+
+/// The modified word is modified + 2 × seen + 4 × pinned, where seen needs modified; no other is sound.
+#[test]
+fn the_modified_word_has_three_marks() {
     let mut belt = Lent::new(BELT);
-    belt.answers(&[Work::Write(3), Work::Tick]);
+    belt.answers(&[Work::Write(3), Work::Tick, Work::Pin(3)]);
     // the first entry's fourth word, behind 24 words, 3 chains and 4 buckets
     let at = 24 + 2 * 3 + 4 + 3;
-    assert_eq!(belt.directory[at], 1 << 28 | 3);
+    assert_eq!(belt.directory[at], 1 << 28 | 7);
     for value in 0..64 {
         belt.directory[at] = 1 << 28 | value;
-        assert_eq!(sound(&belt.directory), [0, 1, 3].contains(&value), "{value}");
+        assert_eq!(sound(&belt.directory), [0, 1, 3, 4, 5, 7].contains(&value), "{value}");
     }
 }
 
@@ -191,8 +210,9 @@ fn numbers_6_to_12() {
         let [incoming, answers, outgoing] = incoming_answers_outgoing;
         assert_eq!(number(&mut belt, &work, incoming, answers, outgoing), 10);
     }
-    let wrong = [Work::Read(64), Work::Write(1 << 28), Work::Purge(u32::MAX)].map(Work::word);
-    for word in wrong.into_iter().chain([0, 6 << 28, 15 << 28, 4 << 28 | 1, 5 << 28 | 1, 5 << 28 | 63]) {
+    let wrong = [Work::Read(64), Work::Write(1 << 28), Work::Purge(u32::MAX), Work::Pin(64), Work::Unpin(64)];
+    for word in wrong.map(Work::word).into_iter().chain([0, 8 << 28, 15 << 28, 4 << 28 | 1, 5 << 28 | 1, 5 << 28 | 63])
+    {
         assert_eq!(number(&mut belt, &[word], 8, 1, 8), 9, "{word:#x}");
     }
     assert_eq!(number(&mut belt, &[Work::Flush.word(); 1_025], 0, 1_025, 0), 8);
@@ -370,11 +390,17 @@ fn answer_words() {
         (3, 262_143 + (64 << 18), Answer::Replaced { victim: 262_143, chains: 64, written_out: false }),
         (4, 0, Answer::Purged { discarded: false }),
         (6, 4_096, Answer::Flushed { written: 4_096 }),
+        (7, 0, Answer::AllPinned),
+        (8, 0, Answer::Pinned { pinned: false }),
+        (8, 1, Answer::Pinned { pinned: true }),
+        (9, 0, Answer::PurgeRefused),
     ];
     for (kind, value, answer) in cases {
         assert_eq!(Answer::from_word(kind << 28 | value), answer);
     }
-    for (kind, value) in [(0, 0), (1, 1 << 27), (2, 1), (3, 1 << 26), (4, 2), (5, 1), (7, 0), (15, 0)] {
+    let unknown =
+        [(0, 0), (1, 1 << 27), (2, 1), (3, 1 << 26), (4, 2), (5, 1), (7, 1), (8, 2), (9, 1), (10, 0), (15, 0)];
+    for (kind, value) in unknown {
         let word = kind << 28 | value;
         assert_eq!(Answer::from_word(word), Answer::Unknown(word), "{kind} {value}");
     }

@@ -9,7 +9,7 @@ pub enum Work {
     Read(u32),
     /// Write the next B bytes of incoming to a block.
     Write(u32),
-    /// Take a block out of the cache. Bytes that are not in the store yet are given up.
+    /// Take a block out of the cache, unless it is pinned. Bytes that are not in the store yet are given up.
     Purge(u32),
     /// Write every modified resident to the store.
     Flush,
@@ -32,6 +32,27 @@ pub enum Work {
     /// # Ok::<(), fbr::Refusal>(())
     /// ```
     Tick,
+    /// Pin a block that is in the cache: it is neither replaced nor purged until it is unpinned.
+    ///
+    /// ```
+    /// use fbr::{Answer, Cache, Settings, Work};
+    ///
+    /// let settings = Settings { n: 1, nnew: 0, nold: 1, cmax: 1, amax: 100, b: 8, m: 64 };
+    /// let mut cache = Cache::new(&settings, vec![b'.'; settings.store_bytes()])?;
+    /// let work = [Work::Write(7), Work::Pin(7), Work::Purge(7), Work::Read(9)];
+    /// let ran = cache.run(&work, b"8 bytes.")?;
+    /// let stays = [Answer::Pinned { pinned: true }, Answer::PurgeRefused, Answer::AllPinned];
+    /// assert_eq!(ran.answers[1..], stays);
+    /// // a read that found all blocks of the cache pinned gives zeros
+    /// assert_eq!(ran.read, [0; 8]);
+    /// let ran = cache.run(&[Work::Unpin(7), Work::Read(9)], &[])?;
+    /// assert_eq!(ran.answers[0], Answer::Pinned { pinned: false });
+    /// assert_eq!(ran.read, b"........");
+    /// # Ok::<(), fbr::Refusal>(())
+    /// ```
+    Pin(u32),
+    /// Unpin a block: it may leave the cache again.
+    Unpin(u32),
 }
 
 impl Work {
@@ -43,6 +64,8 @@ impl Work {
             Work::Purge(block) => (3, block),
             Work::Flush => (4, 0),
             Work::Tick => (5, 0),
+            Work::Pin(block) => (6, block),
+            Work::Unpin(block) => (7, block),
         };
         kind << 28 | if value > MAX_VALUE { MAX_VALUE } else { value }
     }
@@ -78,13 +101,25 @@ pub enum Answer {
         /// Whether modified bytes were given up.
         discarded: bool,
     },
-    /// The block to purge was not in the cache.
+    /// The block to purge, pin or unpin was not in the cache.
     Absent,
     /// The flush or the tick was carried out. One word answers both: which it was, the work word says.
     Flushed {
         /// How many blocks were written to the store. Those that a tick only marked do not count.
         written: u32,
     },
+    /// The block was not in the cache, and did not enter, since all N blocks there are pinned.
+    ///
+    /// A read has given zeros in place of the block's bytes, and a write's bytes are given up. Nothing has changed but
+    /// the total of reads or writes.
+    AllPinned,
+    /// The block was pinned or unpinned.
+    Pinned {
+        /// Whether it is pinned now.
+        pinned: bool,
+    },
+    /// The block to purge is pinned, and stays as it is.
+    PurgeRefused,
     /// A word that this crate doesn't know, as it is: the archive is of another version.
     Unknown(u32),
 }
@@ -112,6 +147,9 @@ impl Answer {
             4 if value <= 1 => Answer::Purged { discarded: value == 1 },
             5 if value == 0 => Answer::Absent,
             6 => Answer::Flushed { written: value },
+            7 if value == 0 => Answer::AllPinned,
+            8 if value <= 1 => Answer::Pinned { pinned: value == 1 },
+            9 if value == 0 => Answer::PurgeRefused,
             _ => Answer::Unknown(word),
         }
     }
