@@ -7,11 +7,11 @@ use lib.Dec.{T}
 use Rattle.basics.specs.Basics.{All}
 use Rattle.words.specs.Links.{linksChanged}
 use Rattle.settings.specs.declared.Settings.{Settings}
-use Rattle.stack.specs.Stack.{Work, Answer, answerWord}
+use Rattle.stack.specs.Stack.{Work, Answer, answerWord, halved}
 use Rattle.stack.specs.Batch.{work}
 use Rattle.stack.specs.Entries.{entryRun}
 use Rattle.layout.specs.Sound.{settingsIn, view}
-use Rattle.promises.specs.Promises.{over, Slices, behind, halved, Accepted}
+use Rattle.promises.specs.Promises.{over, Slices, behind, Accepted}
 use Rattle.promises.specs.Demand3.{Memory}
 use Rattle.cache_steps.specs.Carried.{memory, Ready}
 use Rattle.cache_steps.specs.Runs.{Chain, AllCarried, chain-ready, none-carried, all-carried}

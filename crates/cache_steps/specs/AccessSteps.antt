@@ -8,9 +8,8 @@ use lib.ListN.{length, take}
 use lib.Dec.{T}
 use Rattle.basics.specs.Basics.{if_then_else_}
 use Rattle.settings.specs.declared.Settings.{Settings}
-use Rattle.stack.specs.Counts.{chains, exceeds}
-use Rattle.stack.specs.Recency.{Place, found, unused, replacing, counts, asked, settled, allPinned, countsPins}
-use Rattle.stack.specs.RecencyLaws.{refuses}
+use Rattle.stack.specs.Counts.{chains}
+use Rattle.stack.specs.Recency.{Place, found, unused, replacing, asked, refuses, halves, settled, allPinned, countsPins}
 use Rattle.stack.specs.Stack.{Work, read, write, Answer, replaced, leaving, savedAll, present, answering, accessTotals, access, step}
 use Rattle.stack.specs.Entries.{entryBytes, entryFor, filled, entryStep, Pick, filledAt}
 use Rattle.stack.specs.EntriesLaws.{Entry, entry-placed}
@@ -109,9 +108,9 @@ module _ (m : Memory) (ready : Ready m) (b : ℕ) (written : Bool) {k e : ℕ} {
         ≡ record { after = cacheWith s d (filledAt (s .b) e q put (take (s .n * s .b) (m .bytes))) store₁; answer = answer; given = given }
 
     stepped : (w : Bool)
-        → settled s (asked b w (entryFor e q) q) ≡ residentsIn d
+        → (let next = asked b w (entryFor e q) q in settled (halves s q next) next ≡ residentsIn d)
         → accessTotals (totalsIn (m .directory)) w q ≡ totalsIn d
-        → answering (chains s (countsPins (residentsIn (m .directory)))) (exceeds s (counts (asked b w (entryFor e q) q))) q ≡ answer
+        → answering (chains s (countsPins (residentsIn (m .directory)))) (halves s q (asked b w (entryFor e q) q)) q ≡ answer
         → Stepped w (if w then incoming else bytes₁) (if w then [] else bytes₁)
     unfolding entryStep step access filled view
     stepped true residents totals answers =
@@ -151,9 +150,9 @@ module _ (m : Memory) (ready : Ready m) (b : ℕ) (written : Bool) {k e : ℕ} {
         carry m ready d (filledAt (s .b) e q put (m .bytes)) store₁ (accessed .kept) in-bytes store-same
         (accessing written b) incoming answer (if written then [] else bytes₁) e (picks written)
         (stepped written
-        (ap (λ x. settled s (asked b written x q)) (accessed .entry-is) ∙ sym (accessed .residents))
+        (ap (λ x. let next = asked b written x q in settled (halves s q next) next) (accessed .entry-is) ∙ sym (accessed .residents))
         (sym (accessed .totals))
-        (ap (λ x. answering (chains s (countsPins (residentsIn (m .directory)))) (exceeds s (counts (asked b written x q))) q) (accessed .entry-is)
+        (ap (λ x. answering (chains s (countsPins (residentsIn (m .directory)))) (halves s q (asked b written x q)) q) (accessed .entry-is)
         ∙ accessed .answer-is))
         (record { few = λ calm. let h = accessed .links-few calm in omega arith; none = no-still written })
 

@@ -9,10 +9,10 @@ use lib.Dec.{T}
 use Rattle.words.specs.Links.{linksChanged}
 use Rattle.settings.specs.declared.Settings.{Settings}
 use Rattle.settings.specs.Buckets.{directoryLength}
-use Rattle.stack.specs.Stack.{Work, Answer}
+use Rattle.stack.specs.Stack.{Work, Answer, halved}
 use Rattle.stack.specs.Entries.{Cache, entryStep, Pick}
 use Rattle.layout.specs.Sound.{settingsIn, sound}
-use Rattle.promises.specs.Promises.{cacheIn, halved, isStill}
+use Rattle.promises.specs.Promises.{cacheIn, isStill}
 use Rattle.promises.specs.Demand3.{Memory}
 
 abbrev pub cacheOf : Memory → Cache

@@ -14,10 +14,10 @@ use Rattle.basics.specs.Basics.{All, total}
 use Rattle.words.specs.Links.{linksChanged}
 use Rattle.settings.specs.declared.Settings.{Settings}
 use Rattle.settings.specs.Buckets.{directoryLength}
-use Rattle.stack.specs.Stack.{Work, Answer, Step}
+use Rattle.stack.specs.Stack.{Work, Answer, Step, halved}
 use Rattle.stack.specs.Batch.{work, isWrite, howMany, Ran, run}
 use Rattle.stack.specs.Entries.{Cache, entryStep, Picks}
-use Rattle.promises.specs.Promises.{halved, isStill}
+use Rattle.promises.specs.Promises.{isStill}
 use Rattle.promises.specs.Demand3.{Memory}
 use Rattle.cache_steps.specs.Carried.{cacheOf, settingsOf, Ready, Carried}
 

@@ -1,11 +1,11 @@
--- What an operation reads of the words before it stores: where things stand, and the limits. Statements only.
+-- What an operation reads of the words before it stores: where things stand. Statements only.
 use Prim.Native.Nat.{ℕ, suc, _+_, _*_, _≤_, _<_}
 use mathlib.Core.Path.{_≡_}
 use mathlib.Core.List.{List}
 use Rattle.words.specs.Words.{val}
 use Rattle.settings.specs.declared.Settings.{Settings}
 use Rattle.settings.specs.Buckets.{buckets}
-use Rattle.layout.specs.Addresses.{CACHE-BLOCKS, AVERAGE-LIMIT, UNUSED, BLOCK, MODIFIED}
+use Rattle.layout.specs.Addresses.{UNUSED, BLOCK, MODIFIED}
 use Rattle.linkage.specs.Fields.{base}
 use Rattle.linkage.specs.WordFields.{shape}
 use Rattle.word_ops.specs.Lists.{wordOf}
@@ -24,7 +24,7 @@ bucketAt w block = 24 + 2 * shape w .cmax + shape w .hash block
 
 -- the frame of a directory with these settings
 abbrev pub frameOf : Settings → Frame
-frameOf s = record { «at» = 15 + 2 * s .cmax + buckets (s .n); cmax = s .cmax; buckets = buckets (s .n); links = s .n + 1; limit = s .amax * s .n }
+frameOf s = record { «at» = 15 + 2 * s .cmax + buckets (s .n); cmax = s .cmax; buckets = buckets (s .n); links = s .n + 1 }
 
 -- as an operation uses it
 pub record Framed (w : List ℕ) (f : Frame) : Type 0 where
@@ -32,7 +32,6 @@ pub record Framed (w : List ℕ) (f : Frame) : Type 0 where
   pub cmax-is : f .cmax ≡ shape w .cmax
   pub buckets-is : f .buckets ≡ shape w .nb
   pub links-is : f .links ≡ suc (shape w .N)
-  pub limit-is : f .limit ≡ val w AVERAGE-LIMIT * val w CACHE-BLOCKS
   pub at-few : f .«at» < 100000
   pub cmax-few : f .cmax ≤ 64
   pub buckets-some : 0 < f .buckets

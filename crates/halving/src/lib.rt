@@ -2,7 +2,7 @@ ghost use mathlib.Core.Path.{_≡_};
 ghost use Prim.Native.Nat.{_^_, _≤_, _<_};
 ghost use Rattle.words.specs.Words.{setLink};
 ghost use Rattle.layout.specs.Addresses.{chainHead, chainTail};
-ghost use Rattle.word_ops.specs.Halve.{chainsCleared, halvedTo, halvedEntry, halvedUp, halved};
+ghost use Rattle.word_ops.specs.Halve.{chainsCleared, halvedTo, halvedEntry, halvedUp, halved, overAverage, settled};
 
 // Count chain i becomes empty.
 fn chain_clear(dir: &mut [u32], i: u32)
@@ -59,7 +59,7 @@ fn halve_up(dir: &mut [u32], at: u32, cmax: u32, n: u32, first: u32)
 }
 
 // The counts of all residents are halved: the chains are emptied, and filled again from the stack's tail up.
-pub fn halve(dir: &mut [u32], at: u32, cmax: u32)
+fn halve(dir: &mut [u32], at: u32, cmax: u32)
     requires { ⌜ (at < 100000) × (cmax ≤ 64) ⌝ }
     ensures { λ _. ⌜ now (dir .exit) ≡ halved (now (dir .entry)) at cmax ⌝ }
 {
@@ -67,4 +67,17 @@ pub fn halve(dir: &mut [u32], at: u32, cmax: u32)
     let tail = words::get(dir, layout::TAIL as usize);
     chains_clear(dir, cmax);
     halve_up(dir, at, cmax, r, tail);
+}
+
+// The counts are looked at: they are halved, once, where their sum exceeds Amax × r, with r as it is now; whether they were.
+pub fn settle(dir: &mut [u32], at: u32, cmax: u32, amax: u32) -> bool
+    requires { ⌜ (at < 100000) × (cmax ≤ 64) × (amax ≤ 1000) ⌝ }
+    ensures { λ r. ⌜ (r ≡ overAverage (now (dir .entry)) amax) × (now (dir .exit) ≡ settled (now (dir .entry)) at cmax amax) ⌝ }
+{
+    let limit = amax as u64 * words::value(dir, layout::RESIDENTS) as u64;
+    if limit < words::value(dir, layout::SUM) as u64 {
+        halve(dir, at, cmax);
+        return true;
+    }
+    false
 }

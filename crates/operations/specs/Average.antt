@@ -1,26 +1,20 @@
--- The sum that the directory keeps is that of the counts: the test of the average is on that word. Assumes nothing.
-use Prim.Native.Nat.{ℕ, zero, suc, _*_, _≤_}
+-- The sum that the directory keeps is that of the counts. Assumes nothing.
+use Prim.Native.Nat.{ℕ, zero, suc, _≤_}
 use mathlib.Core.Path.{_≡_, refl, _∙_, sym, ap}
 use mathlib.Core.List.{List, [], _∷_, map}
 use native.Mathlib.Omega.{arith}
 use native.Mathlib.Decide.{ℕ-discrete, decLe}
-use lib.Dec.{ltb}
-use lib.ListN.{length}
-use Rattle.basics.specs.Basics.{All, total, if_then_else_}
+use Rattle.basics.specs.Basics.{All, total}
 use Rattle.links.specs.Upd.{upd, upd-same, upd-other}
 use Rattle.links.specs.Off.{Off, Distinct, off-right}
 use Rattle.links.specs.Find.{Split}
 use Rattle.settings.specs.declared.Settings.{Settings}
-use Rattle.stack.specs.Counts.{exceeds}
-use Rattle.stack.specs.Recency.{counts, settled}
+use Rattle.stack.specs.Recency.{counts}
 use Rattle.layout.specs.Addresses.{SUM, COUNT}
 use Rattle.linkage.specs.Fields.{Shape, Fields, inHeader}
 use Rattle.linkage.specs.WellLinked.{WellLinked, Entry, Sum}
 use Rattle.linkage.specs.WellLinkedLaws.{sum-same, sum-upd}
-use Rattle.operations.specs.HalveSound.{halveD}
-use Rattle.operations.specs.Directory.{Directory}
 use Rattle.operations.specs.Residents.{Of, residentsOf, counts-of, alive}
-use Rattle.operations.specs.After.{halve-residents}
 use Rattle.operations.specs.Lookup.{in-stack}
 
 sum-zero : (n : ℕ) → Sum n (λ _. 0) ≡ 0
@@ -62,13 +56,3 @@ module _ (t : Settings) (s : Shape) (D : Fields) (residents unused : List ℕ) (
   sum-is =
       ap total (counts-of D residents)
       ∙ sym (g .count .sum ∙ sum-list (s .N) (D COUNT) residents (g .stack .ring .once) (entries residents (alive s D residents unused g)) out)
-
-  pub exceeds-is : exceeds t (counts (residentsOf D residents)) ≡ ltb (t .amax * t .n) (D (inHeader SUM) 0)
-  unfolding exceeds
-  exceeds-is = ap (ltb (t .amax * t .n)) sum-is
-
--- the residents once the counts have been looked at
-pub settled-residents : (t : Settings) (s : Shape) (w : List ℕ) (D : Fields) (residents unused : List ℕ) → Of t s → Directory s w D residents unused
-    → settled t (residentsOf D residents) ≡ (if ltb (t .amax * t .n) (D (inHeader SUM) 0) then residentsOf (halveD s (length residents) D) residents else residentsOf D residents)
-unfolding settled
-settled-residents t s w D residents unused of g = rw (exceeds-is t s D residents unused of (g .linked), halve-residents s w D residents unused g)

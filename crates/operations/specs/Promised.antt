@@ -3,13 +3,12 @@
 use Prim.Native.Nat.{ℕ, suc, _+_, _-_, _*_, _^_, _≤_, _<_}
 use mathlib.Core.Path.{_≡_, refl, _∙_, sym, ap, subst}
 use mathlib.Core.Logic.{_≢_}
-use mathlib.Core.Bool.{Bool, true, false, not}
+use mathlib.Core.Bool.{Bool, true, false, not, _&&_}
 use mathlib.Core.Option.{Option, none, some}
 use mathlib.Core.List.{List, [], _∷_}
 use native.Mathlib.Omega.{arith}
 use native.Mathlib.Nat.{mul-le-mul}
-use lib.Dec.{T, ltb}
-use borrow.Author.Tests.{le-ltb}
+use lib.Dec.{T}
 use Rattle.basics.specs.Basics.{All, pick}
 use Rattle.basics.specs.AllLaws.{all-map, all-image}
 use Rattle.basics.specs.Basics as basics
@@ -19,25 +18,24 @@ use Rattle.words.specs.Links.{linksChanged}
 use Rattle.words.specs.LinkLaws.{Within}
 use Rattle.settings.specs.declared.Settings.{Settings}
 use Rattle.stack.specs.Counts.{chains, exceeds}
-use Rattle.stack.specs.Recency.{Resident, unused, counts, position, settled, lookup, removed, allPinned, countsPins, asked}
-use Rattle.stack.specs.Stack.{Answer, hit, entered, replaced, accessTotals, answering, missRefused}
+use Rattle.stack.specs.Recency.{Resident, unused, counts, position, refuses, halves, settled, lookup, removed, allPinned, countsPins, asked}
+use Rattle.stack.specs.Stack.{Totals, Answer, hit, entered, replaced, accessTotals, answering, missRefused, halved}
 use Rattle.stack.specs.Entries.{entryFor, PickAt, Unused}
 use Rattle.stack.specs.PlaceLaws.{Placed, placed}
-use Rattle.stack.specs.SumLaws.{sum, asked-sum, replacing-calm, Calm, settled-sum}
+use Rattle.stack.specs.SumLaws.{isFull, full-calm, settled-sum}
 use Rattle.stack.specs.KeepLaws.{fewer, asked-few, Kept}
-use Rattle.layout.specs.Addresses.{SUM, UNUSED, BLOCK, COUNT, SECTION, MODIFIED}
+use Rattle.layout.specs.Addresses.{UNUSED, BLOCK, COUNT, SECTION, MODIFIED}
 use Rattle.layout.specs.ModifiedWord.{marksIn}
 use Rattle.layout.specs.Sound.{settingsIn, totalsIn, sound, residentAt, residentsIn, view}
 use Rattle.layout.specs.SoundLaws.{sound-legal, sound-kept}
-use Rattle.promises.specs.Promises.{halved}
-use Rattle.promises.specs.DirectoryPromises.{placeOf, askedOf, Accessed, Purged}
+use Rattle.promises.specs.DirectoryPromises.{placeOf, askedOf, halvesOf, Accessed, Purged}
 use Rattle.linkage.specs.Fields.{Shape, base}
 use Rattle.linkage.specs.WordFields.{shape}
 use Rattle.word_ops.specs.Lists.{wordOf}
 use Rattle.word_ops.specs.Hit.{raisedCount}
 use Rattle.word_ops.specs.Victim.{victimFrom}
 use Rattle.word_ops.specs.Purge.{purged}
-use Rattle.word_ops.specs.Halve.{halved as halvedWords}
+use Rattle.word_ops.specs.Halve.{halved as halvedWords, overAverage, settled as settledWords}
 use Rattle.word_ops.specs.Mark.{isMarked}
 use Rattle.word_ops.specs.Totals.{outCounted, accessCounted}
 use Rattle.word_ops.specs.declared.Picked.{Picked}
@@ -46,11 +44,11 @@ use Rattle.layout.specs.declared.Found.{Found}
 use Rattle.layout.specs.declared.Found.the-variants.{At, Absent}
 use Rattle.operations.specs.Directory.{Directory}
 use Rattle.operations.specs.Residents.{Of, resident}
-use Rattle.operations.specs.Stands.{Stands, stands-sum, settledWords, settle-step}
+use Rattle.operations.specs.Stands.{Stands, stands-sum, settle-step}
 use Rattle.operations.specs.Miss.{enteredFor, replacedFor}
 use Rattle.operations.specs.Counted.{after-refused}
 use Rattle.operations.specs.Step.{hitFor}
-use Rattle.operations.specs.SoundWords.{of-sound, stands-of-sound, Read, read-off}
+use Rattle.operations.specs.SoundWords.{of-sound, stands-of-sound, read-off}
 use Rattle.operations.specs.WordSteps.{Room, foundIn, answered, header-is, lookup-word, hit-word, enter-word, replace-word, looked-word, exceeds-word, purge-word, refused-word}
 use Rattle.operations.specs.WordBounds.{hit-links, enter-links, replace-links, purge-links, refused-links}
 use Rattle.operations.specs.WordPlaces.{place-found, place-entered, place-replaced, place-bound}
@@ -107,62 +105,85 @@ module _ (w : List ℕ) (h : T (sound w)) where
 
   -- ---- a read or a write, once the counts are looked at
 
+  -- whether words exceed the average, and the words once the counts have been looked at
+  abbrev pub over : List ℕ → Bool
+  over u = overAverage u (t .amax)
+
+  abbrev pub settledOf : List ℕ → List ℕ
+  settledOf u = settledWords u (base s) (s .cmax) (t .amax)
+
   -- Over the words u that stand for the stack with the block at its front, at entry e.
   module _ (k block e : ℕ) (written : Bool) (u : List ℕ) (gu : Stands t s u (askedOf w block written e) (accessTotals (totalsIn w) written (placeOf w block))) (near : Within k w u)
       (entry-is : entryFor e (placeOf w block) ≡ e) (entry-free : PickAt (t .n) e (placeOf w block)) where
-    -- whether the sum is over its limit
-    abbrev over : Bool
-    over = ltb (t .amax * t .n) (val u SUM)
+    abbrev next : List (Resident ℕ)
+    next = askedOf w block written e
 
-    over-is : exceeds t (counts (askedOf w block written e)) ≡ over
-    over-is = exceeds-word t s of u (askedOf w block written e) (accessTotals (totalsIn w) written (placeOf w block)) gu
+    abbrev counted : Totals
+    counted = accessTotals (totalsIn w) written (placeOf w block)
+
+    -- after an answer other than 7 the test of the words is the one defined
+    looked-at : T (not (refuses (placeOf w block))) → halvesOf w block written e ≡ over u
+    unfolding halves
+    looked-at c = go (refuses (placeOf w block)) c ∙ exceeds-word t s of u next counted gu
+      where
+        go : (r : Bool) → T (not r) → (not r && exceeds t (counts next)) ≡ exceeds t (counts next)
+        go true c = absurd c
+        go false c = refl
 
     at : Placed t l (placeOf w block)
     at = placed t l (kept .some-old) (kept .old-fits) (kept .few-chains) (kept .few) (kept .legal) block
 
-    settled-few : basics.total (counts (settled t (askedOf w block written e))) ≤ t .amax * t .n
+    settled-few : basics.total (counts (settled (halvesOf w block written e) next)) ≤ t .amax * t .n
     settled-few =
-        settled-sum t (askedOf w block written e) (kept .some-average) (asked-few t l (kept .few) (kept .legal) block written e (placeOf w block) at)
-        (let a = asked-sum t l (kept .legal) block written e (placeOf w block) at in let b = kept .sums in omega arith)
+        settled-sum t l (kept .sums) block written e (kept .legal) (kept .some-average) (placeOf w block) at
+        (asked-few t l (kept .few) (kept .legal) block written e (placeOf w block) at)
 
-    after : Read w (settledWords t s u) (settled t (askedOf w block written e)) (accessTotals (totalsIn w) written (placeOf w block))
-    after = read-off w h (settledWords t s u) (settled t (askedOf w block written e)) (accessTotals (totalsIn w) written (placeOf w block)) (settle-step t s u (askedOf w block written e) (accessTotals (totalsIn w) written (placeOf w block)) of gu) settled-few
-
-    settled-accessed : (answer : Answer) → answering (chains t (countsPins l)) over (placeOf w block) ≡ answer
-        → (T (not (halved answer)) → T (not over)) → Accessed k w block written e answer (settledWords t s u)
-    settled-accessed answer told calm =
+    -- Counts that are to be halved were, and no others.
+    settled-accessed : (b : Bool) → halvesOf w block written e ≡ b → (answer : Answer)
+        → answering (chains t (countsPins l)) b (placeOf w block) ≡ answer → (T (not (halved answer)) → T (not b))
+        → Accessed k w block written e answer (pick b (halvedWords u (base s) (s .cmax)) u)
+    settled-accessed b is answer told calm =
+        let after = read-off w h (pick b (halvedWords u (base s) (s .cmax)) u) (settled b next) counted (settle-step t s u next counted b gu)
+        (subst (λ x. basics.total (counts (settled x next)) ≤ t .amax * t .n) is settled-few) in
         record {
           kept = after .kept;
           entry-is = entry-is;
           entry-free = entry-free;
-          residents = after .residents-are;
+          residents = after .residents-are ∙ ap (λ x. settled x next) (sym is);
           totals = after .totals-are;
-          answer-is = ap (λ b. answering (chains t (countsPins l)) b (placeOf w block)) over-is ∙ told;
-          links-few = λ c. few over (calm c);
+          answer-is = ap (λ x. answering (chains t (countsPins l)) x (placeOf w block)) is ∙ told;
+          links-few = λ c. few b (calm c);
         }
       where
         few : (b : Bool) → T (not b) → linksChanged w (pick b (halvedWords u (base s) (s .cmax)) u) ≤ k
         few true c = absurd c
         few false c = near .links
 
+    looked-accessed : T (not (refuses (placeOf w block))) → (answer : Answer) → answering (chains t (countsPins l)) (over u) (placeOf w block) ≡ answer
+        → (T (not (halved answer)) → T (not (over u))) → Accessed k w block written e answer (settledOf u)
+    looked-accessed c = settled-accessed (over u) (looked-at c)
+
+    -- where N residents stay N
+    full-accessed : T (isFull (placeOf w block)) → (answer : Answer) → answering (chains t (countsPins l)) false (placeOf w block) ≡ answer
+        → Accessed k w block written e answer u
+    full-accessed full answer told =
+        settled-accessed false (full-calm t l (kept .legal) (kept .sums) block written e (placeOf w block) at full) answer told (λ c. tt)
+
   -- ---- a hit
 
-  -- the words that it leaves before the counts are looked at, and whether they are halved
+  -- the words that it leaves before the counts are looked at
   abbrev pub hitWords : ℕ → Bool → List ℕ
   hitWords e written = hitFor s w e written
 
-  abbrev pub overLimit : List ℕ → Bool
-  overLimit u = ltb (t .amax * t .n) (val u SUM)
-
   -- A HIT of the block of resident entry e.
   pub hit-accessed : (block e : ℕ) (written : Bool) → Room w → lookup block l ≡ some (residentAt w e)
-      → Accessed 16 w block written e (hit (raisedCount (val w (wordOf (base s) e SECTION)) (val w (wordOf (base s) e COUNT))) (overLimit (hitWords e written))) (settledWords t s (hitWords e written))
-  unfolding entryFor answering
+      → Accessed 16 w block written e (hit (raisedCount (val w (wordOf (base s) e SECTION)) (val w (wordOf (base s) e COUNT))) (over (hitWords e written))) (settledOf (hitWords e written))
+  unfolding entryFor answering refuses
   hit-accessed block e written r look =
       let here = found-of block e look in
       let q = place-found t s of w l (totalsIn w) g block (s .N) e (omega arith) here in
-      settled-accessed 16 block e written (hitWords e written) (hit-word t s of w l (totalsIn w) g block (s .N) e written r (omega arith) here) (hit-links t s of w l (totalsIn w) g block (s .N) e written r (omega arith) here)
-      (rw q refl) (rw q tt) (hit (raisedCount (val w (wordOf (base s) e SECTION)) (val w (wordOf (base s) e COUNT))) (overLimit (hitWords e written))) (rw q refl) (λ c. c)
+      looked-accessed 16 block e written (hitWords e written) (hit-word t s of w l (totalsIn w) g block (s .N) e written r (omega arith) here) (hit-links t s of w l (totalsIn w) g block (s .N) e written r (omega arith) here)
+      (rw q refl) (rw q tt) (rw q tt) (hit (raisedCount (val w (wordOf (base s) e SECTION)) (val w (wordOf (base s) e COUNT))) (over (hitWords e written))) (rw q refl) (λ c. c)
 
   -- ---- an unused entry
 
@@ -188,32 +209,20 @@ module _ (w : List ℕ) (h : T (sound w)) where
 
   -- A BLOCK that no resident has ENTERS the first unused entry.
   pub enter-accessed : (block : ℕ) (written : Bool) → Room w → block < t .m → lookup block l ≡ none → val w UNUSED ≢ 0
-      → Accessed 15 w block written (val w UNUSED) (entered (overLimit (enterWords block written))) (settledWords t s (enterWords block written))
-  unfolding entryFor answering settingsIn
+      → Accessed 15 w block written (val w UNUSED) (entered (over (enterWords block written))) (settledOf (enterWords block written))
+  unfolding entryFor answering refuses settingsIn
   enter-accessed block written r inside gone left =
       let here = absent-of block gone in
       let q = place-entered t s of w l (totalsIn w) g block (s .N) (omega arith) here left in
-      settled-accessed 15 block (val w UNUSED) written (enterWords block written) (enter-word t s of w l (totalsIn w) g block (s .N) written r inside (omega arith) here left) (enter-links t s of w l (totalsIn w) g block written r left)
-      (rw q refl) (rw q (first-unused left)) (entered (overLimit (enterWords block written))) (rw q refl) (λ c. c)
+      looked-accessed 15 block (val w UNUSED) written (enterWords block written) (enter-word t s of w l (totalsIn w) g block (s .N) written r inside (omega arith) here left) (enter-links t s of w l (totalsIn w) g block written r left)
+      (rw q refl) (rw q (first-unused left)) (rw q tt) (entered (over (enterWords block written))) (rw q refl) (λ c. c)
 
   -- ---- the victim's entry
 
   abbrev pub replaceWords : ℕ → ℕ → Bool → List ℕ
   replaceWords e block written = outCounted (val w (wordOf (base s) e MODIFIED)) (replacedFor s w (val w (wordOf (base s) e BLOCK)) e block written)
 
-  -- words whose counts' sum is within its limit are left as they are
-  calm-accessed : (k block e : ℕ) (written : Bool) (u : List ℕ)
-      → Stands t s u (askedOf w block written e) (accessTotals (totalsIn w) written (placeOf w block)) → Within k w u
-      → sum (askedOf w block written e) ≤ t .amax * t .n
-      → entryFor e (placeOf w block) ≡ e → PickAt (t .n) e (placeOf w block) → (answer : Answer)
-      → ((b : Bool) → b ≡ false → answering (chains t (countsPins l)) b (placeOf w block) ≡ answer) → Accessed k w block written e answer u
-  calm-accessed k block e written u gu near few entry-is entry-free answer told =
-      let within : overLimit u ≡ false = le-ltb (t .amax * t .n) (val u SUM)
-      (rw (stands-sum t s u (askedOf w block written e) (accessTotals (totalsIn w) written (placeOf w block)) of gu) few) in
-      subst (λ b. Accessed k w block written e answer (pick b (halvedWords u (base s) (s .cmax)) u)) within
-      (settled-accessed k block e written u gu near entry-is entry-free answer (told (overLimit u) within) (λ c. rw within tt))
-
-  -- A BLOCK that no resident has REPLACES the victim, where no entry is unused. Counts are not halved: the sum does not rise.
+  -- A BLOCK that no resident has REPLACES the victim, where no entry is unused. Counts are not halved.
   pub replace-accessed : (block : ℕ) (p : Picked) (written : Bool) → Room w → block < t .m → lookup block l ≡ none → val w UNUSED ≡ 0
       → victimFrom w (base s) (suc (s .N)) (s .cmax) 1 ≡ VictimAt p
       → Accessed 20 w block written (p .entry)
@@ -225,15 +234,10 @@ module _ (w : List ℕ) (h : T (sound w)) where
       let here = absent-of block gone in
       let q = place-replaced t s of w l (totalsIn w) g block (s .N) (suc (s .N)) p (omega arith) (omega arith) here none-left v in
       let gu = replace-word t s of w l (totalsIn w) g block (s .N) (suc (s .N)) p written r inside (omega arith) (omega arith) here none-left v in
-      let calm = subst (Calm t l) q
-      (replacing-calm t l (kept .legal) (placeOf w block)
-      (placed t l (kept .some-old) (kept .old-fits) (kept .few-chains) (kept .few) (kept .legal) block))
-      block written e in
-      let few : sum (askedOf w block written e) ≤ t .amax * t .n = rw q (let b = kept .sums in omega arith) in
-      calm-accessed 20 block e written (replaceWords e block written) gu
-      (replace-links t s of w l (totalsIn w) g block (s .N) (suc (s .N)) p written r inside (omega arith) (omega arith) here none-left v) few
-      (rw q refl) (rw q tt) (replaced (val w (wordOf (base s) e BLOCK)) (p .chains) (isMarked (val w (wordOf (base s) e MODIFIED))))
-      (λ b z. rw (q, ← looked-word t s of w l (totalsIn w) g (suc (s .N)) p (omega arith) none-left v) refl)
+      full-accessed 20 block e written (replaceWords e block written) gu
+      (replace-links t s of w l (totalsIn w) g block (s .N) (suc (s .N)) p written r inside (omega arith) (omega arith) here none-left v)
+      (rw q refl) (rw q tt) (rw q tt) (replaced (val w (wordOf (base s) e BLOCK)) (p .chains) (isMarked (val w (wordOf (base s) e MODIFIED))))
+      (rw (q, ← looked-word t s of w l (totalsIn w) g (suc (s .N)) p (omega arith) none-left v) refl)
 
   -- IT IS REFUSED, where all are pinned: the read or the write is counted, and nothing else moves.
   pub refused-accessed : (block : ℕ) (written : Bool) → Room w → lookup block l ≡ none → val w UNUSED ≡ 0
@@ -245,9 +249,8 @@ module _ (w : List ℕ) (h : T (sound w)) where
       none-left v in
       let gu : Stands t s (accessCounted written w) (askedOf w block written 0) (accessTotals (totalsIn w) written (placeOf w block)) =
       rw (q, ← after-refused written l (totalsIn w)) (refused-word t s of w l (totalsIn w) g written r) in
-      let few : sum (askedOf w block written 0) ≤ t .amax * t .n = rw q (kept .sums) in
-      calm-accessed 0 block 0 written (accessCounted written w) gu (refused-links t s of w l (totalsIn w) g written r) few (rw q refl) (rw q tt)
-      missRefused (λ b z. rw q refl)
+      full-accessed 0 block 0 written (accessCounted written w) gu (refused-links t s of w l (totalsIn w) g written r) (rw q refl) (rw q tt)
+      (rw q tt) missRefused (rw q refl)
 
   -- ---- a purge
 

@@ -26,7 +26,7 @@ use Rattle.victims.specs.Short.{lookedFrom}
 use Rattle.operations.specs.Seen.{address}
 use Rattle.operations.specs.Residents.{resident, residentsOf, alive}
 use Rattle.operations.specs.VictimWords.{search-few}
-use Rattle.operations.specs.Stands.{Stands}
+use Rattle.operations.specs.Stands.{Stands, stands-many}
 use Rattle.operations.specs.SoundWords.{of-sound, stands-of-sound}
 use Rattle.operations.specs.WordSteps.{foundIn, answered, header-is, lookup-word}
 
@@ -45,7 +45,7 @@ module _ (w : List ℕ) (h : T (sound w)) where
 
   -- r
   pub residents-word : val w RESIDENTS ≡ length (residentsIn w)
-  residents-word = header-is (settingsIn w) s (of-sound w h) w (residentsIn w) (totalsIn w) g RESIDENTS (omega arith) (omega arith) (omega arith) ∙ sym (g .directory .linked .stack .full) ∙ sym many
+  residents-word = stands-many (settingsIn w) s w (residentsIn w) (totalsIn w) g
 
   first-word : val w UNUSED ≡ D (20 + UNUSED) 0
   first-word = header-is (settingsIn w) s (of-sound w h) w (residentsIn w) (totalsIn w) g UNUSED (omega arith) (omega arith) (omega arith)

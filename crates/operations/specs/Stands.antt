@@ -2,17 +2,16 @@
 use Prim.Native.Nat.{ℕ, _+_, _*_}
 use mathlib.Core.Path.{_≡_, refl, _∙_, sym, ap, ap₂}
 use mathlib.Core.Bool.{Bool, true, false}
-use mathlib.Core.List.{List}
+use mathlib.Core.List.{List, map}
 use native.Mathlib.Omega.{arith}
-use lib.Dec.{ltb}
-use lib.ListN.{length}
-use Rattle.basics.specs.Basics.{pick, if_then_else_}
+use lib.ListN.{length, length-map}
+use Rattle.basics.specs.Basics.{pick}
 use Rattle.basics.specs.Basics as basics
 use Rattle.words.specs.Words.{val}
 use Rattle.settings.specs.declared.Settings.{Settings}
-use Rattle.stack.specs.Recency.{Resident, counts, settled}
+use Rattle.stack.specs.Recency.{Resident, counts, halve, settled}
 use Rattle.stack.specs.Stack.{Totals}
-use Rattle.layout.specs.Addresses.{TO-HEAD, AVERAGE-LIMIT, BLOCK-SIZE, SUM, READS, WRITES, INS, OUTS}
+use Rattle.layout.specs.Addresses.{TO-HEAD, AVERAGE-LIMIT, BLOCK-SIZE, RESIDENTS, SUM, READS, WRITES, INS, OUTS}
 use Rattle.linkage.specs.Fields.{Shape, Fields, base, header, inHeader, view-get}
 use Rattle.linkage.specs.WellLinked.{total}
 use Rattle.word_ops.specs.Halve.{halved}
@@ -20,8 +19,9 @@ use Rattle.operations.specs.Directory.{Directory}
 use Rattle.operations.specs.FieldOps.{clear, halveOne}
 use Rattle.operations.specs.HalveSound.{halveD, halve-sound}
 use Rattle.operations.specs.HalveKeeps.{halve-keeps}
-use Rattle.operations.specs.Residents.{Of, residentsOf}
-use Rattle.operations.specs.Average.{sum-is, settled-residents}
+use Rattle.operations.specs.Residents.{Of, resident, residentsOf}
+use Rattle.operations.specs.After.{halve-residents}
+use Rattle.operations.specs.Average.{sum-is}
 use Rattle.operations.specs.Counted.{totalsOf, same-totals}
 
 -- The two settings that the working form leaves out.
@@ -49,10 +49,13 @@ stands-sum t s w l totals of g =
     sum-word s w (g .fields) (g .order) (g .unused) (g .directory)
     ∙ sym (sum-is t s (g .fields) (g .order) (g .unused) of (g .directory .linked)) ∙ ap (λ (m : List (Resident ℕ)). basics.total (counts m)) (g .seen)
 
--- ---- the counts are looked at
+-- and they keep r
+pub stands-many : (t : Settings) (s : Shape) (w : List ℕ) (l : List (Resident ℕ)) (totals : Totals) → Stands t s w l totals → val w RESIDENTS ≡ length l
+stands-many t s w l totals g =
+    view-get s w (g .fields) (g .directory .view) (inHeader RESIDENTS) 0 RESIDENTS (header refl refl (omega arith) (omega arith) (omega arith))
+    ∙ sym (g .directory .linked .stack .full) ∙ sym (length-map (g .order) (resident (g .fields))) ∙ ap length (g .seen)
 
-abbrev pub settledWords : Settings → Shape → List ℕ → List ℕ
-settledWords t s w = pick (ltb (t .amax * t .n) (val w SUM)) (halved w (base s) (s .cmax)) w
+-- ---- the counts are looked at
 
 halve-totals : (s : Shape) (n : ℕ) (D : Fields) → totalsOf (halveD s n D) ≡ totalsOf D
 halve-totals s n D =
@@ -74,22 +77,18 @@ halve-given t s n D g =
     at : (k : ℕ) → ((E : Fields) (x : ℕ) → halveOne s E x k ≡ E k) → (i : ℕ) → halveD s n D k i ≡ clear (s .cmax) D k i
     at k h i = ap (λ (f : ℕ → ℕ). f i) (halve-keeps s k h n (D TO-HEAD 0) (clear (s .cmax) D))
 
-pub settle-step : (t : Settings) (s : Shape) (w : List ℕ) (l : List (Resident ℕ)) (totals : Totals) → Of t s → Stands t s w l totals → Stands t s (settledWords t s w) (settled t l) totals
-settle-step t s w l totals of g =
-    let D : Fields = g .fields in
-    let v : val w SUM ≡ D (inHeader SUM) 0 = sum-word s w D (g .order) (g .unused) (g .directory) in
-    let q : settled t l ≡ (if ltb (t .amax * t .n) (D (inHeader SUM) 0) then residentsOf (halveD s (length (g .order)) D) (g .order) else residentsOf D (g .order)) = ap (settled t) (sym (g .seen)) ∙ settled-residents t s w D (g .order) (g .unused) of (g .directory) in
-    rw (v, q) (go (ltb (t .amax * t .n) (D (inHeader SUM) 0)))
-  where
-    go : (b : Bool) → Stands t s (pick b (halved w (base s) (s .cmax)) w) (if b then residentsOf (halveD s (length (g .order)) (g .fields)) (g .order) else residentsOf (g .fields) (g .order)) totals
-    go true =
-        record {
-          fields = halveD s (length (g .order)) (g .fields);
-          order = g .order;
-          unused = g .unused;
-          directory = halve-sound s w (g .fields) (g .order) (g .unused) (g .directory) .sound;
-          seen = refl;
-          counted = halve-totals s (length (g .order)) (g .fields) ∙ g .counted;
-          given = halve-given t s (length (g .order)) (g .fields) (g .given);
-        }
-    go false = record { fields = g .fields; order = g .order; unused = g .unused; directory = g .directory; seen = refl; counted = g .counted; given = g .given }
+-- whether or not they are halved
+pub settle-step : (t : Settings) (s : Shape) (w : List ℕ) (l : List (Resident ℕ)) (totals : Totals) (b : Bool) → Stands t s w l totals
+    → Stands t s (pick b (halved w (base s) (s .cmax)) w) (settled b l) totals
+unfolding settled
+settle-step t s w l totals true g =
+    record {
+      fields = halveD s (length (g .order)) (g .fields);
+      order = g .order;
+      unused = g .unused;
+      directory = halve-sound s w (g .fields) (g .order) (g .unused) (g .directory) .sound;
+      seen = halve-residents s w (g .fields) (g .order) (g .unused) (g .directory) ∙ ap (map halve) (g .seen);
+      counted = halve-totals s (length (g .order)) (g .fields) ∙ g .counted;
+      given = halve-given t s (length (g .order)) (g .fields) (g .given);
+    }
+settle-step t s w l totals false g = g

@@ -1,13 +1,13 @@
 -- Each operation from words that stand for a stack to words that stand for the stack after it: what is asked is asked of the words.
 -- Assumes nothing.
 use Prim.Native.Nat.{ℕ, suc, _+_, _*_, _≤_, _<_, _-_, _^_}
-use mathlib.Core.Path.{_≡_, refl, _∙_, sym, ap, subst}
+use mathlib.Core.Path.{_≡_, refl, _∙_, sym, ap, ap₂, subst}
 use mathlib.Core.Bool.{Bool, true, false, not}
 use mathlib.Core.List.{List, [], _∷_, _++_}
 use mathlib.Core.Option.{Option, none, some}
 use native.Mathlib.Omega.{arith}
 use lib.Dec.{ltb}
-use lib.ListN.{length}
+use lib.ListN.{length, length-map}
 use Rattle.links.specs.All.{all-here}
 use Rattle.basics.specs.Basics.{All, bit}
 use Rattle.words.specs.Words.{val}
@@ -23,6 +23,7 @@ use Rattle.word_ops.specs.Lists.{wordOf}
 use Rattle.word_ops.specs.Buckets.{found}
 use Rattle.word_ops.specs.Victim.{victimFrom}
 use Rattle.word_ops.specs.Purge.{purged}
+use Rattle.word_ops.specs.Halve.{overAverage}
 use Rattle.word_ops.specs.Totals.{accessCounted, outCounted}
 use Rattle.layout.specs.declared.Found.{Found}
 use Rattle.word_ops.specs.declared.Picked.{Picked}
@@ -35,7 +36,7 @@ use Rattle.operations.specs.Residents.{Of, resident, residentsOf, alive}
 use Rattle.operations.specs.Lookup.{Told, asOption, find-is, find-seen}
 use Rattle.operations.specs.VictimWords.{Chosen, Refused, Searched, found-victim}
 use Rattle.operations.specs.Counted.{totalsOf, raisedBy, totalsAfter, access-totals}
-use Rattle.operations.specs.Stands.{Given, Stands, stands-sum}
+use Rattle.operations.specs.Stands.{Given, Stands, stands-sum, stands-many}
 use Rattle.operations.specs.Step.{hitFor, hit-asked, purge-step}
 use Rattle.operations.specs.MissStep.{enter-asked, replace-asked}
 
@@ -195,9 +196,11 @@ module _ (t : Settings) (s : Shape) (of : Of t s) (w : List ℕ) (l : List (Resi
       limits true = record { average = g .given .average; bytes = g .given .bytes }
       limits false = record { average = g .given .average; bytes = g .given .bytes }
 
-  pub exceeds-word : exceeds t (counts l) ≡ ltb (t .amax * t .n) (val w SUM)
+  pub exceeds-word : exceeds t (counts l) ≡ overAverage w (t .amax)
   unfolding exceeds
-  exceeds-word = ap (ltb (t .amax * t .n)) (sym (stands-sum t s w l totals of g))
+  exceeds-word =
+      ap₂ (λ (r sum : ℕ). ltb (t .amax * r) sum) (length-map l (λ x. x .count) ∙ sym (stands-many t s w l totals g))
+      (sym (stands-sum t s w l totals of g))
 
   -- ---- a purge
 

@@ -10,12 +10,12 @@ use lib.Dec.{T}
 use Rattle.basics.specs.Basics.{All}
 use Rattle.words.specs.Links.{linksChanged}
 use Rattle.settings.specs.declared.Settings.{Settings}
-use Rattle.stack.specs.Stack.{Plain, answerWord, empty}
+use Rattle.stack.specs.Stack.{Plain, answerWord, empty, halved}
 use Rattle.stack.specs.Batch.{Call, Result, work, AllReported, batch}
 use Rattle.stack.specs.Entries.{Cache, plain}
 use Rattle.layout.specs.Layout.{freshWords}
 use Rattle.layout.specs.Sound.{settingsIn, sound}
-use Rattle.promises.specs.Promises.{over, Fresh, Slices, cacheIn, behind, callOf, halved, isStill, Batch}
+use Rattle.promises.specs.Promises.{over, Fresh, Slices, cacheIn, behind, callOf, isStill, Batch}
 
 -- ---- the calls of a list
 

@@ -12,10 +12,10 @@ use lib.Dec.{T, eqb}
 use Rattle.basics.specs.Basics.{if_then_else_}
 use Rattle.words.specs.Links.{linksChanged}
 use Rattle.settings.specs.Buckets.{directoryLength}
-use Rattle.stack.specs.Counts.{chains, exceeds}
+use Rattle.stack.specs.Counts.{chains}
 use Rattle.stack.specs.declared.Marks.{Marks}
-use Rattle.stack.specs.Recency.{cleared, sawTick, Resident, remarked, Place, counts, place, asked, settled, removed, pinnedAs, countsPins}
-use Rattle.stack.specs.Stack.{Totals, Answer, replaced, missRefused, accessTotals, answering}
+use Rattle.stack.specs.Recency.{cleared, sawTick, Resident, remarked, Place, place, asked, halves, settled, removed, pinnedAs, countsPins}
+use Rattle.stack.specs.Stack.{Totals, Answer, replaced, missRefused, halved, accessTotals, answering}
 use Rattle.stack.specs.Entries.{entryFor, PickAt}
 use Rattle.layout.specs.Addresses.{TO-TAIL}
 use Rattle.layout.specs.Sound.{settingsIn, totalsIn, field, sound, residentAt, residentsIn}
@@ -23,7 +23,6 @@ use Rattle.layout.specs.declared.Found.{Found}
 use Rattle.layout.specs.declared.Found.the-variants.{At, Absent}
 use Rattle.promises.specs.declared.Replacement.{Replacement}
 use Rattle.promises.specs.declared.Replacement.the-variants.{By, AllPinned}
-use Rattle.promises.specs.Promises.{halved}
 
 -- What a lookup yields, as the resident that it found.
 abbrev pub foundResident : List ℕ → Found → Option (Resident ℕ)
@@ -46,19 +45,21 @@ placeOf words block = place (settingsIn words) block (residentsIn words)
 abbrev pub askedOf : List ℕ → ℕ → Bool → ℕ → List (Resident ℕ)
 askedOf words block written entry = asked block written entry (placeOf words block)
 
+-- whether counts are halved then
+abbrev pub halvesOf : List ℕ → ℕ → Bool → ℕ → Bool
+halvesOf words block written entry = halves (settingsIn words) (placeOf words block) (askedOf words block written entry)
+
 -- the answer, by the recency stack
 abbrev pub answerOf : List ℕ → ℕ → Bool → ℕ → Answer
 answerOf words block written entry =
-    answering (chains (settingsIn words) (countsPins (residentsIn words)))
-    (exceeds (settingsIn words) (counts (askedOf words block written entry)))
-    (placeOf words block)
+    answering (chains (settingsIn words) (countsPins (residentsIn words))) (halvesOf words block written entry) (placeOf words block)
 
 -- The block was asked for, and is then at that entry: its own, the victim's, or an unused one; or it was refused, at none (0).
 pub record Accessed (links : ℕ) (before : List ℕ) (block : ℕ) (written : Bool) (entry : ℕ) (answer : Answer) (after : List ℕ) : Type 0 where
   pub kept : Kept before after
   pub entry-is : entryFor entry (placeOf before block) ≡ entry
   pub entry-free : PickAt (settingsIn before .n) entry (placeOf before block)
-  pub residents : residentsIn after ≡ settled (settingsIn before) (askedOf before block written entry)
+  pub residents : residentsIn after ≡ settled (halvesOf before block written entry) (askedOf before block written entry)
   pub totals : totalsIn after ≡ accessTotals (totalsIn before) written (placeOf before block)
   pub answer-is : answerOf before block written entry ≡ answer
   pub links-few : T (not (halved answer)) → linksChanged before after ≤ links

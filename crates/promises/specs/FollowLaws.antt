@@ -10,13 +10,13 @@ use lib.Dec.{T}
 use Rattle.basics.specs.Basics.{All}
 use Rattle.words.specs.LinkLaws.{changed-same}
 use Rattle.settings.specs.declared.Settings.{Settings}
-use Rattle.stack.specs.Stack.{Plain, Work, answerWord}
+use Rattle.stack.specs.Stack.{Plain, Work, answerWord, halved}
 use Rattle.stack.specs.Batch.{Ran, nothing, work, batchNumber, AllReported, batch}
 use Rattle.stack.specs.Entries.{Cache, plain, entryRun}
 use Rattle.stack.specs.RunLaws.{plainRan}
 use Rattle.stack.specs.BatchLaws.{Fits, allowed, batch-declined}
 use Rattle.layout.specs.Sound.{settingsIn, totalsIn, sound, view}
-use Rattle.promises.specs.Promises.{over, Fresh, Slices, behind, callOf, numberOf, halved, Accepted, Batch}
+use Rattle.promises.specs.Promises.{over, Fresh, Slices, behind, callOf, numberOf, Accepted, Batch}
 use Rattle.promises.specs.SliceLaws.{number-sound, accepted-same, accepted-reported, after-settings, after-bytes, after-store}
 use Rattle.promises.specs.Demand3.{Memory, Lending, lends, leaves, Linked, end, call, asCall, starts, shown, Alike, Agrees, Follows, Demand3, LinkBound, LinksStay}
 use Rattle.promises.specs.Demand3.{Idle, refused, wordless, memoryLeft, stackLeft, StillFresh}

@@ -8,10 +8,11 @@ use lib.ListN.{take, drop}
 use Rattle.basics.specs.Basics.{All}
 use Rattle.settings.specs.declared.Settings.{Settings}
 use Rattle.stack.specs.Stack.{Plain, Work, unpin, missRefused, answerWord, plainStep}
-use Rattle.stack.specs.Batch.{work, isWrite, plainRun, Ran}
+use Rattle.stack.specs.Batch.{work, isWrite}
 use Rattle.stack.specs.Entries.{plain}
-use Rattle.stack.specs.Pins.{Misses, AllPinned, Refusing, Holds, Sparing, EachStep}
+use Rattle.stack.specs.Pins.{Misses, AllPinned, Refusing, Holds, Sparing}
 use Rattle.layout.specs.Sound.{settingsIn, residentsIn}
+use Rattle.promises.specs.EachWord.{EachWord}
 use Rattle.promises.specs.Promises.{Slices, behind, Batch, over}
 
 -- An answer word is of kind 7 exactly if its word misses while all N residents are pinned.
@@ -42,16 +43,6 @@ BatchSpares =
     → Holds b (residentsIn (before .directory))
     → Holds b (residentsIn (after .directory))
 
--- Each word of a batch, from the plain stack behind the directory to the one behind it then: a refused miss changes its total alone and
--- gives zeros; a pinned resident is no victim, nor purged. What the words answer and give is what the batch leaves in its slices.
+-- A refused miss changes its total alone and gives zeros; a pinned resident is no victim, nor purged.
 abbrev pub BatchPins : Type 0
-BatchPins =
-    (words incoming : List ℕ) (before : Slices) (after : Slices)
-    → Batch words incoming before 0 after
-    → let s : Settings = settingsIn (before .directory) in
-    let k : Plain = plain (behind before) in
-    let ran : Ran Plain = plainRun k (map (work s) words) incoming in
-    EachStep (λ k w now. Refusing k w now × Sparing k w now) (s .b) k (map (work s) words) incoming
-    × (plain (behind after) ≡ ran .after)
-    × (after .answers ≡ over (map answerWord (ran .answers)) (before .answers))
-    × (after .outgoing ≡ over (ran .outgoing) (before .outgoing))
+BatchPins = EachWord (λ k w now. Refusing k w now × Sparing k w now)

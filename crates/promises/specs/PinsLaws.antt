@@ -12,12 +12,13 @@ use Rattle.stack.specs.Batch.{work, isWrite, run, plainRun}
 use Rattle.stack.specs.Entries.{plain, entryRun}
 use Rattle.stack.specs.RunLaws.{plainRan, AllTold, works}
 use Rattle.stack.specs.BatchLaws.{batch-accepted}
-use Rattle.stack.specs.Pins.{Holds}
-use Rattle.stack.specs.HeldLaws.{each-pins, kept-plain, run-holds}
+use Rattle.stack.specs.Pins.{Refusing, Holds, Sparing}
+use Rattle.stack.specs.HeldLaws.{step-pins, run-holds}
 use Rattle.layout.specs.Sound.{settingsIn, view}
 use Rattle.layout.specs.SoundLaws.{sound-kept}
 use Rattle.promises.specs.Promises.{over, behind, callOf}
 use Rattle.promises.specs.SliceLaws.{number-zero, accepted-same, accepted-told}
+use Rattle.promises.specs.EachWordLaws.{each-word}
 use Rattle.promises.specs.Pins.{AllSeventh, BatchRefuses, BatchSpares, BatchPins}
 
 all-seventh : (B : ℕ) (k : Plain) (ws : List Work) (incoming more : List ℕ) → AllTold B k ws incoming
@@ -53,15 +54,4 @@ batch-spares words incoming before after b promise others holds =
     (run-holds b (s .b) (behind before) (sound-kept (before .directory) h (before .store)) picked incoming others-picked holds)
 
 pub batch-pins : BatchPins
-unfolding view plainRan
-batch-pins words incoming before after promise =
-    let s : Settings = settingsIn (before .directory) in
-    let k : Plain = plain (behind before) in
-    let (h, e) = number-zero words incoming before (sym (promise .returned)) in
-    let (picked, acc) = promise .accepted refl in
-    let same = sym (accepted-same words incoming before h e after picked acc) ∙ batch-accepted k (callOf words incoming before) e in (
-      each-pins (s .b) k (kept-plain (behind before) (sound-kept (before .directory) h (before .store))) (map (work s) words) incoming,
-      ap plain (acc .cache) ∙ ap (λ r. r .after) same,
-      acc .answers ∙ ap (λ r. over (map answerWord (r .answers)) (before .answers)) same,
-      acc .outgoing ∙ ap (λ r. over (r .outgoing) (before .outgoing)) same,
-    )
+batch-pins = each-word (λ k w now. Refusing k w now × Sparing k w now) step-pins

@@ -12,7 +12,7 @@ use Rattle.basics.specs.Basics.{All, if_then_else_}
 use Rattle.words.specs.Links.{linksChanged}
 use Rattle.settings.specs.declared.Settings.{Settings}
 use Rattle.settings.specs.Buckets.{directoryLength}
-use Rattle.stack.specs.Stack.{Work, read, write, purge, flush, tick, invalid, Answer, hit, entered, replaced, purged, absent, flushed, answerWord, pin, unpin, missRefused, pinned, purgeRefused}
+use Rattle.stack.specs.Stack.{Work, read, write, purge, flush, tick, invalid, answerWord, pin, unpin, halved}
 use Rattle.stack.specs.Batch.{Call, Ran, work, batchNumber}
 use Rattle.stack.specs.Entries.{Cache, entryRun, Picks}
 use Rattle.layout.specs.Layout.{freshWords, freshNumber}
@@ -68,18 +68,6 @@ unfolding sound settingsIn totalsIn batchNumber
 numberOf words incoming t =
     let next = batchNumber (settingsIn (t .directory)) (totalsIn (t .directory)) (callOf words incoming t) in
     if sound (t .directory) then next else 6
-
--- whether counts were halved
-abbrev pub halved : Answer → Bool
-halved (hit n h) = h
-halved (entered h) = h
-halved (replaced b n o) = false
-halved (purged d) = false
-halved absent = false
-halved (flushed n) = false
-halved missRefused = false
-halved (pinned on) = false
-halved purgeRefused = false
 
 -- whether a word leaves all link words as they are: a flush, a tick, a pin or an unpin
 abbrev pub isStill : Work → Bool

@@ -12,9 +12,8 @@ use Rattle.basics.specs.AllLaws.{all-those}
 use Rattle.basics.specs.Basics.{All, if_then_else_, bit, without, blockAt}
 use Rattle.basics.specs.Lists.{those}
 use Rattle.basics.specs.TestLaws.{split, same-or-not}
-use Rattle.stack.specs.Counts.{exceeds}
 use Rattle.stack.specs.declared.Marks.{Marks}
-use Rattle.stack.specs.Recency.{askedMarks, cleared, Resident, Place, counts, position, halve, remarked, place, asked, settled, lookup, removed, pinAt}
+use Rattle.stack.specs.Recency.{askedMarks, cleared, Resident, Place, position, halve, remarked, place, asked, halves, settled, lookup, removed, pinAt}
 use Rattle.stack.specs.Stack.{Plain, Work, read, write, purge, flush, tick, invalid, leaving, saved, savedAll, present, pin, unpin, pinning}
 use Rattle.stack.specs.Stack.{access, purging, flushing, step, plainStep}
 use Rattle.stack.specs.StackLaws.{bytesFor, purging-either}
@@ -146,7 +145,7 @@ module _ (k : Plain) (kept : Kept k) (sizes : All (Sized itself (k .settings .b)
         let s = k .settings in
         let q = place s c l in
         let next : List Holder = asked c written (bytesFor itself k c written incoming) q in
-        settle next (exceeds s (counts next))
+        settle next (halves s q next)
         (asked-fate q (kept-placed k kept c) (place-blocks s c l (kept .differ)))
       where
         settle : {before after : List ℕ} {o : Option Holder} (next : List Holder) (t : Bool) → Fate w before after o (lookup b next)

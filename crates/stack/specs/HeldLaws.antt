@@ -14,9 +14,8 @@ use Rattle.basics.specs.Basics.{All, without}
 use Rattle.basics.specs.TestLaws.{same-or-not, if-yes, if-either}
 use Rattle.settings.specs.declared.Settings.{Settings}
 use Rattle.settings.specs.NumbersLaws.{legal-settings}
-use Rattle.stack.specs.Counts.{exceeds}
 use Rattle.stack.specs.declared.Marks.{Marks}
-use Rattle.stack.specs.Recency.{cleared, due, sawTick, ticked, hold, Resident, Place, counts, position, halve, remarked, place, asked, settled, lookup, removed, pinAt}
+use Rattle.stack.specs.Recency.{cleared, due, sawTick, ticked, hold, Resident, Place, position, halve, remarked, place, asked, halves, settled, lookup, removed, pinAt}
 use Rattle.stack.specs.Stack.{Stack, Plain, empty, Work, read, write, purge, flush, tick, pin, unpin, invalid, Answer, hit, entered, replaced, purged, absent, flushed, missRefused, pinned, purgeRefused}
 use Rattle.stack.specs.Stack.{idle, answering, access, purging, pinning, flushing, step, plainStep}
 use Rattle.stack.specs.StackLaws.{bytesFor, purging-either, holdStack, marks-hold}
@@ -27,11 +26,11 @@ use Rattle.stack.specs.PlaceLaws.{Legal, Placed, hits, enters, replaces,
 use Rattle.stack.specs.BlockLaws.{Differ, Absent, AtPlace, place-blocks, lookup-block}
 use Rattle.stack.specs.LookupLaws.{lookup-first, lookup-past, lookup-absent, lookup-without, lookup-same, lookup-at}
 use Rattle.stack.specs.KeepLaws.{Kept, kept-placed}
-use Rattle.stack.specs.StepLaws.{step-kept}
+use Rattle.stack.specs.StepLaws.{step-kept, each-step}
 use Rattle.stack.specs.RunLaws.{works}
 use Rattle.stack.specs.FateLaws.{itself}
 use Rattle.stack.specs.SureLaws.{empty-sure}
-use Rattle.stack.specs.Pins.{Refusing, Holds, Sparing, EachStep, PlainPins}
+use Rattle.stack.specs.Pins.{Refusing, Holds, Sparing, PlainPins}
 use Rattle.stack.specs.PinLaws.{step-refuses}
 
 -- ---- a pinned block
@@ -131,7 +130,7 @@ module _ {A : Type 0} (bytesOf : A → List ℕ) (keep : Place A → List ℕ �
         let q = place s c l in
         let next : List (Resident A) = asked c written (keep q (bytesFor bytesOf k c written incoming)) q in
         let now : Holds b next = asked-holds c written _ q (kept-placed k kept c) (place-blocks s c l (kept .differ)) in
-        if-either (Holds b) (exceeds s (counts next)) (map halve next) next
+        if-either (Holds b) (halves s q next) (map halve next) next
         (λ t. holds-same b next halve (λ x. refl) (λ x e t. t) now)
         (λ t. now)
 
@@ -190,19 +189,14 @@ step-spares k kept w incoming =
     keeps : Place (List ℕ) → List ℕ → List ℕ
     keeps q bytes = bytes
 
-pub each-pins : (B : ℕ) (k : Plain) → Kept k → (ws : List Work) (incoming : List ℕ)
-    → EachStep (λ k w now. Refusing k w now × Sparing k w now) B k ws incoming
-unfolding plainStep
-each-pins B k kept [] incoming = tt
-each-pins B k kept (w ∷ ws) incoming =
-    let now : List ℕ = take B incoming in (
-      (step-refuses k kept w now, step-spares k kept w now),
-      each-pins B _ (step-kept itself (λ q bytes. bytes) k kept w now) ws (drop (isWrite w * B) incoming),
-    )
+pub step-pins : (k : Plain) → Kept k → (w : Work) (incoming : List ℕ)
+    → let now = plainStep k w incoming in Refusing k w now × Sparing k w now
+step-pins k kept w incoming = (step-refuses k kept w incoming, step-spares k kept w incoming)
 
 pub plain-pins : PlainPins
 plain-pins s store words incoming legal =
-    each-pins (s .b) (empty s store) (empty-sure s store (legal-settings s legal) .kept) (map (work s) words) incoming
+    each-step (λ k w now. Refusing k w now × Sparing k w now) step-pins (s .b) (empty s store) (empty-sure s store (legal-settings s legal) .kept)
+    (map (work s) words) incoming
 
 -- ---- of a run over entries
 

@@ -1,5 +1,5 @@
 -- Answer 7: a miss gets it exactly if all N residents are pinned, and then only its total rises.
-use Prim.Native.Nat.{ℕ, _*_, _≤_}
+use Prim.Native.Nat.{ℕ, _*_}
 use native.Mathlib.Nat.{add-zero, one-mul, zero-mul}
 use native.Mathlib.Omega.{arith}
 use mathlib.Core.Path.{_≡_, refl, sym, subst}
@@ -9,16 +9,14 @@ use mathlib.Core.Option.{Option, none, some}
 use lib.ListN.{length, getElem?, replicate}
 use lib.Dec.{ltb, T}
 use mir.Facts.{T-not}
-use borrow.Author.Tests.{le-ltb}
 use Rattle.basics.specs.Basics.{if_then_else_, total}
 use Rattle.settings.specs.declared.Settings.{Settings}
-use Rattle.stack.specs.Counts.{victim, exceeds}
-use Rattle.stack.specs.Recency.{Resident, Place, found, unused, replacing, allPinned, countsPins, position, raise, replacingAt, foundAt, place, settled, lookup}
+use Rattle.stack.specs.Counts.{victim}
+use Rattle.stack.specs.Recency.{Resident, Place, found, unused, replacing, allPinned, countsPins, position, raise, replacingAt, foundAt, place, settled, lookup, asked, refuses, halves}
 use Rattle.stack.specs.Stack.{Plain, Work, read, write, purge, flush, tick, pin, unpin, invalid, Answer, hit, entered, replaced, purged, absent, flushed, missRefused, pinned, purgeRefused}
 use Rattle.stack.specs.Stack.{leaving, entering, modifiedCount, savedAll, present, answering, access, purging, pinning, flushing, step, plainStep}
 use Rattle.stack.specs.StackLaws.{purging-either}
 use Rattle.stack.specs.PlaceLaws.{Placed, hits, enters, replaces, refusing, all-found}
-use Rattle.stack.specs.SumLaws.{sum}
 use Rattle.stack.specs.KeepLaws.{Kept, kept-placed}
 use Rattle.stack.specs.Batch.{isRead}
 use Rattle.stack.specs.Pins.{Misses, AllPinned, onlyCounted, Refusing}
@@ -51,11 +49,6 @@ missed {A} s b l e =
     go true o = tt
     go false none = tt
     go false (some x) = tt
-
--- counts that aren't too high stay
-settled-calm : {A : Type 0} (s : Settings) (l : List (Resident A)) → sum l ≤ s .amax * s .n → settled s l ≡ l
-unfolding settled exceeds
-settled-calm s l h = rw (le-ltb (s .amax * s .n) (sum l) h)
 
 module _ (k : Plain) (at : (b : ℕ) → Placed (k .settings) (k .residents) (place (k .settings) b (k .residents))) where
   abbrev s : Settings
@@ -131,19 +124,16 @@ module _ (k : Plain) (at : (b : ℕ) → Placed (k .settings) (k .residents) (pl
 
 -- the whole step
 pub step-refuses : (k : Plain) → Kept k → (w : Work) (incoming : List ℕ) → Refusing k w (plainStep k w incoming)
-unfolding plainStep step access savedAll leaving entering modifiedCount total answering present
+unfolding plainStep step access savedAll leaving entering modifiedCount total answering present asked halves refuses settled
 step-refuses k kept w incoming = record { only = refused-only k at incoming w; always = always w }
   where
     at : (b : ℕ) → Placed (k .settings) (k .residents) (place (k .settings) b (k .residents))
     at = kept-placed k kept
 
-    calm : settled (k .settings) (k .residents) ≡ k .residents
-    calm = settled-calm (k .settings) (k .residents) (kept .sums)
-
     always : (w : Work) → Misses k w → AllPinned k
         → plainStep k w incoming ≡ record { after = onlyCounted k w; answer = missRefused; given = replicate (isRead w * k .settings .b) 0 }
-    always (read b) m all = rw (place-refused k at b m all, calm) (simp (add-zero, one-mul))
-    always (write b) m all = rw (place-refused k at b m all, calm) (simp (add-zero, zero-mul))
+    always (read b) m all = rw (place-refused k at b m all) (simp (add-zero, one-mul))
+    always (write b) m all = rw (place-refused k at b m all) (simp (add-zero, zero-mul))
     always (purge b) m all = absurd m
     always flush m all = absurd m
     always tick m all = absurd m

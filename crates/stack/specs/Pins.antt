@@ -4,17 +4,17 @@ use Prim.Native.Nat.{ℕ, _+_, _-_, _*_, _≤_}
 use mathlib.Core.Path.{_≡_}
 use mathlib.Core.Logic.{_≢_}
 use mathlib.Core.Bool.{Bool, false, _&&_}
-use mathlib.Core.List.{List, [], _∷_, map}
+use mathlib.Core.List.{List, map}
 use mathlib.Core.Option.{none, some}
-use lib.ListN.{length, take, drop, replicate, getD}
+use lib.ListN.{length, drop, replicate, getD}
 use lib.Dec.{leb, eqb, T}
 use Rattle.basics.specs.Basics.{All, if_then_else_, member}
 use Rattle.settings.specs.declared.Settings.{Settings}
 use Rattle.settings.specs.Numbers.{settingsNumber}
 use Rattle.stack.specs.Counts.{isOld, least, greatest, victim, looked, chains}
 use Rattle.stack.specs.Recency.{Resident, lookup}
-use Rattle.stack.specs.Stack.{Plain, empty, Work, read, write, purge, flush, tick, pin, unpin, invalid, replaced, missRefused, purgeRefused, Step, idle, plainStep}
-use Rattle.stack.specs.Batch.{work, isRead, isWrite}
+use Rattle.stack.specs.Stack.{Plain, empty, Work, read, write, purge, flush, tick, pin, unpin, invalid, replaced, missRefused, purgeRefused, Step, idle}
+use Rattle.stack.specs.Batch.{work, isRead, isWrite, EachStep}
 
 -- ---- answer 7
 
@@ -63,12 +63,6 @@ pub record Sparing (k : Plain) (w : Work) (now : Step Plain) : Type 0 where
   pub stays : (b : ℕ) → w ≢ unpin b → Holds b (k .residents) → Holds b (now .after .residents)
 
 -- ---- of the plain stack, from no residents on, over any work words
-
--- of each word of a run, with the stack before it and the step that it is
-abbrev pub EachStep : (Plain → Work → Step Plain → Type 0) → ℕ → Plain → List Work → List ℕ → Type 0
-EachStep P B k [] incoming = Unit {0}
-EachStep P B k (w ∷ ws) incoming =
-    P k w (plainStep k w (take B incoming)) × EachStep P B (plainStep k w (take B incoming) .after) ws (drop (isWrite w * B) incoming)
 
 abbrev pub PlainPins : Type 0
 PlainPins =

@@ -14,9 +14,8 @@ use Rattle.basics.specs.Lists.{those}
 use Rattle.settings.specs.declared.Settings.{Settings}
 use Rattle.settings.specs.NumbersLaws.{LegalSettings, old-fits}
 use Rattle.stack.specs.BufferLaws.{block-ends, length-blockAt}
-use Rattle.stack.specs.Counts.{exceeds}
 use Rattle.stack.specs.declared.Marks.{Marks}
-use Rattle.stack.specs.Recency.{cleared, due, ticked, Place, counts, position, halve, remarked, place, asked, settled, lookup, removed, pinAt}
+use Rattle.stack.specs.Recency.{cleared, due, ticked, Place, position, halve, remarked, place, asked, halves, settled, lookup, removed, pinAt}
 use Rattle.stack.specs.Stack.{Plain, empty, Work, read, write, purge, flush, tick, invalid, leaving, modifiedCount, savedAll, present, pin, unpin, pinning}
 use Rattle.stack.specs.Stack.{access, purging, flushing, step, plainStep}
 use Rattle.stack.specs.StackLaws.{bytesFor, purging-either}
@@ -75,7 +74,7 @@ module _ (k : Plain) (kept : Kept k) (sizes : All (Sized itself (k .settings .b)
         let q = place s c l in
         let next : List Holder = asked c written (bytesFor itself k c written incoming) q in
         let (fit, long) = asked-sized q (kept-placed k kept c) in
-        (settle next fit (exceeds s (counts next)), long)
+        (settle next fit (halves s q next), long)
       where
         settle : (next : List Holder) → All (Sized itself B n) next → (t : Bool) → All (Sized itself B n) (if t then map halve next else next)
         settle next fit true = all-image (Sized itself B n) halve next fit

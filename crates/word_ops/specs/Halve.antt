@@ -1,8 +1,12 @@
--- Halving as stores, in the order of the code: the chains are emptied, and filled again from the stack's tail up. Assumes nothing.
-use Prim.Native.Nat.{ℕ, zero, suc, _+_, _/_}
+-- Halving as stores, in the order of the code: the chains are emptied, and filled again from the stack's tail up; and the test that
+-- comes before it, by Amax × r. Assumes nothing.
+use Prim.Native.Nat.{ℕ, zero, suc, _+_, _*_, _/_}
+use mathlib.Core.Bool.{Bool}
 use mathlib.Core.List.{List}
+use lib.Dec.{ltb}
+use Rattle.basics.specs.Basics.{pick}
 use Rattle.words.specs.Words.{val, setLink}
-use Rattle.layout.specs.Addresses.{RESIDENTS, TAIL, COUNT, TO-HEAD, chainHead, chainTail}
+use Rattle.layout.specs.Addresses.{RESIDENTS, SUM, TAIL, COUNT, TO-HEAD, chainHead, chainTail}
 use Rattle.word_ops.specs.Lists.{wordOf}
 use Rattle.word_ops.specs.Hit.{countSet, chainJoined}
 
@@ -29,3 +33,11 @@ halvedUp w at cmax (suc n) e = halvedUp (halvedEntry w at cmax e) at cmax n (val
 
 unfoldable pub halved : List ℕ → ℕ → ℕ → List ℕ
 halved w at cmax = halvedUp (chainsCleared w cmax) at cmax (val w RESIDENTS) (val w TAIL)
+
+-- whether the sum of counts exceeds Amax × r
+abbrev pub overAverage : List ℕ → ℕ → Bool
+overAverage w amax = ltb (amax * val w RESIDENTS) (val w SUM)
+
+-- the counts looked at, once
+abbrev pub settled : List ℕ → ℕ → ℕ → ℕ → List ℕ
+settled w at cmax amax = pick (overAverage w amax) (halved w at cmax) w

@@ -1,6 +1,5 @@
 use Rattle.settings.specs.NumbersLaws.{legal-settings}
 use Rattle.settings.specs.BucketLaws.{buckets-few}
-use Rattle.directory.proofs.Laws.{limit-small}
 use native.Mathlib.Omega.{arith}
 use borrow.Author.Needs.{needs}
 use Rattle.directory.proofs.frame_of.Statement.{statement}
@@ -26,21 +25,12 @@ add-t4 c =
     let few = l .few-blocks in
     omega arith
 
-cast-t5 : tie.Need-cast-t5
-cast-t5 c = search needs
-
-cast-t6 : tie.Need-cast-t6
-cast-t6 c = search needs
-
-mul-t7 : tie.Need-mul-t7
-mul-t7 c = omega (arith, limit-small _ (c .before .before .before .before .before .pre))
-
 returns : tie.Need-returns
 returns c =
-    let placed = c .before .before .before in
+    let placed = c .before in
     rw (placed .entries-from .ensures, placed .before .buckets .ensures)
 
 pub frame-of-spec : {M : Type 1} → statement M
 frame-of-spec =
     tie.close
-    (tie.spec buckets-requires entries-from-requires add-t4 cast-t5 cast-t6 mul-t7 returns)
+    (tie.spec buckets-requires entries-from-requires add-t4 returns)
