@@ -11,7 +11,7 @@ use cache_tests::reference::{histories, samples};
 use cache_tests::{look_into, table, totals, Settings, BELT, LIBRARY};
 
 const ONE: Settings = Settings { n: 1, nnew: 0, nold: 1, cmax: 1, amax: 10, b: 8, m: 64 };
-/// Halves as soon as one count is 3.
+/// Halves as soon as one count is 2.
 const TWO: Settings = Settings { n: 2, nnew: 0, nold: 1, cmax: 1, amax: 1, b: 8, m: 64 };
 
 fn start(s: Settings, seed: u64) -> Beside {
@@ -78,10 +78,10 @@ fn a_pin_outlasts_every_word() {
     }
     // and halving
     let mut two = start(TWO, 323);
-    let halved = (1, 3 + answer::HALVED);
-    assert_eq!(two.answered(&[READ, PIN, READ, WRITE]), [(2, 0), (8, 1), (1, 2), halved]);
+    let halved = (1, 2 + answer::HALVED);
+    assert_eq!(two.answered(&[READ, PIN, READ, WRITE]), [(2, 0), (8, 1), halved, halved]);
     assert_eq!(two.modified_words(), [5]);
-    assert_eq!(two.answered(&[READ + 1, READ, PURGE]), [(2, answer::HALVED), (1, 2 + answer::HALVED), (9, 0)]);
+    assert_eq!(two.answered(&[READ + 1, READ, PURGE]), [(2, 0), halved, (9, 0)]);
 }
 
 /// A flush and the second tick write out pinned blocks like others.

@@ -6,7 +6,7 @@ use super::directory::{LINK, MAX_VALUE, MIDDLE, NEW, NUMBER, OLD, VALUE_BITS};
 use super::fast_judge;
 use super::fnv;
 use super::marks::PINNED;
-use super::settings::{sum_limit, MAX_COUNT};
+use super::settings::MAX_COUNT;
 use super::stack::{answer, work, MOST_TOTAL};
 use crate::Settings;
 use std::hint::black_box;
@@ -168,7 +168,6 @@ struct Cache<'a, const LOOP: bool> {
     s: Settings,
     map: Map,
     boundaries: [Boundary; 2],
-    sum_limit: u64,
     totals: Totals,
 }
 
@@ -181,7 +180,7 @@ impl<'a, const LOOP: bool> Cache<'a, LOOP> {
             outs: total(dir, header::OUTS_LOW),
         };
         let boundaries = [(s.nnew, header::AT_NNEW, MIDDLE), (s.n - s.nold, header::FIRST_OLD, OLD)];
-        Cache { words: dir, data, store, s, map: Map::of(s), boundaries, sum_limit: sum_limit(s), totals }
+        Cache { words: dir, data, store, s, map: Map::of(s), boundaries, totals }
     }
     fn put_totals(&mut self) {
         let t = self.totals;
@@ -392,7 +391,7 @@ impl<'a, const LOOP: bool> Cache<'a, LOOP> {
     }
 
     fn halved_after(&mut self, answer: u32) -> u32 {
-        if u64::from(self.at(header::SUM)) <= self.sum_limit {
+        if u64::from(self.at(header::SUM)) <= u64::from(self.s.amax) * u64::from(self.at(header::RESIDENTS)) {
             return answer;
         }
         for count in 1..=self.s.cmax {

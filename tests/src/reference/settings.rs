@@ -69,7 +69,7 @@ pub fn directory_length(s: Settings) -> u64 {
     header::LENGTH as u64 + chains + buckets(s.n) + entries
 }
 
-/// The halving limit: the sum of counts of a sound directory is at most this.
+/// The sum of counts of a sound directory is at most this, however few its residents.
 pub fn sum_limit(s: Settings) -> u64 {
     u64::from(s.amax) * u64::from(s.n)
 }

@@ -333,11 +333,11 @@ impl PlainStack {
         (1..=self.settings.cmax).find(|&count| has_one(count)).unwrap_or(self.settings.cmax)
     }
 
-    /// The answer, after counts were halved if their sum exceeds Amax × N. A replaced block's answer has no mark: the
-    /// sum did not rise.
+    /// The answer, after counts were halved, once, if their sum exceeds Amax × r; the block that entered is one of the r.
+    /// A replaced block's answer has no mark: with N residents the sum did not rise.
     fn halved_after(&mut self, answer: u32) -> u32 {
         let sum: u64 = self.residents.iter().map(|resident| u64::from(resident.count)).sum();
-        if sum <= u64::from(self.settings.amax) * u64::from(self.settings.n) {
+        if sum <= u64::from(self.settings.amax) * self.residents.len() as u64 {
             return answer;
         }
         for resident in &mut self.residents {

@@ -1,11 +1,11 @@
 //! The examples of the scope, those with a letter and the others, each beside the plain stack.
 use cache_tests::reference::beside::{Beside, Call};
-use cache_tests::reference::builder::{Arrangement, Plan, Resident, Totals};
+use cache_tests::reference::builder::{Plan, Resident, Totals};
 use cache_tests::reference::directory::{fresh_words, header, value, word, MAX_VALUE};
 use cache_tests::reference::rng::Rng;
 use cache_tests::reference::settings::directory_length;
 use cache_tests::reference::stack::{answer, work, Lent};
-use cache_tests::reference::{fast_judge, histories};
+use cache_tests::reference::{fast_judge, histories, samples};
 use cache_tests::{batch, fresh, Settings, BELT, LIBRARY};
 
 const ONE: Settings = Settings { n: 1, nnew: 0, nold: 1, cmax: 1, amax: 10, b: 8, m: 64 };
@@ -49,9 +49,9 @@ fn b_word_by_word() {
 #[test]
 fn c_to_f() {
     let mut two = start(Settings { n: 2, nnew: 0, nold: 1, cmax: 1, amax: 1, b: 8, m: 64 }, 203);
-    assert_eq!(run(&mut two, &reads(&[0, 0, 0]))[2], (1, 67_108_867));
-    assert_eq!(two.stack.residents[0].count, 2);
-    assert_eq!(value(two.dir[header::SUM]), 2);
+    assert_eq!(run(&mut two, &reads(&[0, 0, 0])), [(2, 0), (1, 67_108_866), (1, 67_108_866)]);
+    assert_eq!(two.stack.residents[0].count, 1);
+    assert_eq!(value(two.dir[header::SUM]), 1);
 
     assert_eq!(run(&mut start(ONE, 204), &reads(&[0, 0, 1]))[2], (3, 262_144));
 
@@ -130,28 +130,28 @@ fn words_of_a_batch() {
 
 #[test]
 fn a_count_of_65_535_stays() {
-    let s = Settings { n: 100, nnew: 1, nold: 1, cmax: 3, amax: 1_000, b: 8, m: 64 };
+    let s = Settings { n: 100, nnew: 1, nold: 1, cmax: 3, amax: 1_000, b: 8, m: 128 };
+    let mut rng = Rng::announced("a_count_of_65_535_stays", 210);
     let resident = |block, count| Resident { block, count, marks: 0 };
-    let plan = Plan {
-        settings: s,
-        residents: vec![resident(7, 1), resident(9, 65_534), resident(8, 20_000)],
-        totals: Totals::default(),
-        arrangement: Arrangement { entries: vec![50, 2, 9], unused: rest(&[50, 2, 9]), synonyms: vec![0, 1, 2] },
-    };
-    let mut beside = histories::built_of(&mut Rng::announced("a_count_of_65_535_stays", 210), LIBRARY, &plan);
+    // the others are so many that the average allows such counts
+    let others = (10..95).map(|block| resident(block, 1));
+    let residents: Vec<Resident> =
+        [resident(7, 1), resident(9, 65_534), resident(8, 20_000)].into_iter().chain(others).collect();
+    let arrangement = samples::arrangement(&mut rng, s.n, residents.len() as u32);
+    let plan = Plan { settings: s, residents, totals: Totals::default(), arrangement };
+    let mut beside = histories::built_of(&mut rng, LIBRARY, &plan);
     let answers = run(&mut beside, &reads(&[9, 7, 9, 7, 9]));
     assert_eq!(answers, [(1, 65_535), (1, 2), (1, 65_535), (1, 3), (1, 65_535)]);
     assert_eq!(beside.stack.residents[0].count, 65_535);
 
-    // the same from fresh: 65,536 reads, the first of which enters
+    // the same from fresh: 66 blocks enter, and one is read until it stays
     let mut beside = start(Settings { nnew: 0, ..s }, 211);
+    let all: Vec<u32> = (0..66).collect();
+    run(&mut beside, &reads(&all));
     for _ in 0..64 {
         run(&mut beside, &reads(&[7; 1_024]));
     }
     assert_eq!(run(&mut beside, &reads(&[7])), [(1, 65_535)]);
-}
-fn rest(taken: &[u32]) -> Vec<u32> {
-    (1..=100).rev().filter(|e| !taken.contains(e)).collect()
 }
 
 /// Each number on its limit, and every condition that comes later met as well.

@@ -62,8 +62,8 @@ fn a_and_b() {
 fn c() {
     let mut two = start(Settings { n: 2, nnew: 0, nold: 1, cmax: 1, amax: 1, b: 8, m: 64 });
     let (answers, _) = run(&mut two, &reads(&[0, 0, 0]));
-    assert_eq!(answers[2], word(1, 67_108_867));
-    assert_eq!(counts(&two), [2]);
+    assert_eq!(answers, [word(2, 0), word(1, 67_108_866), word(1, 67_108_866)]);
+    assert_eq!(counts(&two), [1]);
 }
 
 #[test]
@@ -260,15 +260,20 @@ fn the_victim_around_the_chain_limit() {
 
 #[test]
 fn a_count_of_65_535_stays() {
-    let mut stack = start(Settings { n: 100, nnew: 0, nold: 1, cmax: 3, amax: 1_000, b: 8, m: 64 });
+    let mut stack = start(Settings { n: 100, nnew: 0, nold: 1, cmax: 3, amax: 1_000, b: 8, m: 128 });
+    // beside so many residents that the average allows it
+    let blocks: Vec<u32> = (0..66).collect();
+    run(&mut stack, &reads(&blocks));
     let words = reads(&[7; 1_024]);
     for _ in 0..64 {
         run(&mut stack, &words);
     }
-    // 65,536 reads, the first of which entered
-    assert_eq!(counts(&stack), [65_535]);
+    assert_eq!(stack.residents[0].count, 65_535);
     assert_eq!(run(&mut stack, &reads(&[7])).0, [word(1, 65_535)]);
-    assert_eq!(counts(&stack), [65_535]);
+    assert_eq!(stack.residents[0].count, 65_535);
+    // one resident fewer, and the next read halves: 65,535 + 64 exceeds 1,000 x 65
+    assert_eq!(run(&mut stack, &[word(work::PURGE, 9), reads(&[7])[0]]).0[1], word(1, 65_535 + answer::HALVED));
+    assert_eq!(stack.residents[0].count, 32_768);
 }
 
 #[test]
