@@ -14,8 +14,9 @@
  * the machine's byte order, which there is low byte first.
  *
  * Settings: N cache blocks (1 to 4,096), of which Nnew form the new section and Nold the old one (Nold at least 1,
- * Nnew + Nold at most N), chain limit Cmax (1 to 64), average limit Amax (1 to 1,000), block size B (1 to 4,096
- * bytes) and the store's blocks M (1 to 262,144, numbered from 0).
+ * Nnew + Nold at most N), chain limit Cmax (1 to 64), average limit Amax (1 to 1,000: counts are halved when a read or
+ * a write leaves their average over the blocks in the cache above it), block size B (1 to 4,096 bytes) and the store's
+ * blocks M (1 to 262,144, numbered from 0).
  *
  * Sizes of the lent memory:
  *   directory   fbr_directory_words(N, Cmax) words, or more: words past that stay untouched
@@ -54,8 +55,8 @@
 #include <stdint.h>
 
 /* The version, as a number for #if (major * 10000 + minor * 100 + patch) and as a text. */
-#define FBR_VERSION 600
-#define FBR_VERSION_TEXT "0.6.0"
+#define FBR_VERSION 700
+#define FBR_VERSION_TEXT "0.7.0"
 
 #ifdef __cplusplus
 extern "C" {

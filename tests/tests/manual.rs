@@ -218,6 +218,10 @@ fn a_flights_boarding() {
     assert_eq!(example("boarding"), shown("text boarding"));
 }
 #[test]
+fn a_large_purge() {
+    assert_eq!(example("purge"), shown("text purge"));
+}
+#[test]
 fn the_occupancy_of_a_day() {
     assert_eq!(example("occupancy"), shown("text occupancy"));
 }

@@ -11,7 +11,8 @@ pub struct Settings {
     pub nold: u32,
     /// Cmax: the chain limit, 1 to 64.
     pub cmax: u32,
-    /// Amax: the average limit, 1 to 1,000.
+    /// Amax: the average limit, 1 to 1,000. Counts are halved when a read or a write leaves their average over the blocks
+    /// in the cache above it.
     pub amax: u32,
     /// B: the block size, 1 to 4,096 bytes.
     pub b: u32,

@@ -74,9 +74,10 @@ fn example_a() {
 fn example_c() {
     let mut two = Lent::new(Settings { n: 2, nnew: 0, nold: 1, cmax: 1, amax: 1, b: 8, m: 64 });
     let answers = two.answers(&reads(&[0, 0, 0]));
-    assert_eq!(answers, [ENTERED, hit(2), Answer::Hit { count: 3, halved: true }]);
-    // the count left is 2
-    assert_eq!(two.answers(&reads(&[0])), [Answer::Hit { count: 3, halved: true }]);
+    let halved = Answer::Hit { count: 2, halved: true };
+    assert_eq!(answers, [ENTERED, halved, halved]);
+    // the count left is 1
+    assert_eq!(two.answers(&reads(&[0])), [halved]);
 }
 
 #[test]
