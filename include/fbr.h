@@ -4,11 +4,11 @@
  * Every call works on memory that the caller lends for the length of the call. Nothing is kept between calls,
  * nothing is allocated and nothing is freed: directory, data and store are the caller's, and the whole state of a
  * cache stands in them. Slices pass as a pointer and an element count: 32-bit words for directory, work, answers,
- * settings and occupancy, 64-bit numbers for totals, bytes for data, store, incoming and outgoing. A pointer must not
- * be null and must be aligned for its elements, also where the count is 0: fbr_no_bytes and fbr_no_words give pointers
- * for that. Slices that one call may write to must not overlap any other slice of that call. Nothing may run beside
- * fbr_batch or fbr_fresh over the same memory; the other calls only read it and may run beside each other. Calls over
- * different memory never meet.
+ * settings, occupancy and loads, 64-bit numbers for totals, bytes for data, store, incoming and outgoing. A pointer
+ * must not be null and must be aligned for its elements, also where the count is 0: fbr_no_bytes and fbr_no_words give
+ * pointers for that. Slices that one call may write to must not overlap any other slice of that call. Nothing may run
+ * beside fbr_batch or fbr_fresh over the same cache; the other calls only read a cache and may run beside each other.
+ * No call may write to memory that another running call uses. Calls over different memory never meet.
  *
  * Platform: the archive is for x86-64 Linux. The words of directory, work and answers have
  * the machine's byte order, which there is low byte first.
@@ -28,10 +28,10 @@
  *   outgoing    B bytes for each read, or more
  * Pass the length that the store has, not M * B worked out from the settings: another store is found out by it alone.
  *
- * Numbers that fbr_fresh, fbr_batch, fbr_look_number, fbr_totals and fbr_occupancy return, checked in this order, 12
- * right after 7; fbr_totals and fbr_occupancy check 10 before 6. One of these calls that returns another number than 0
- * has changed nothing, except that fbr_totals and fbr_occupancy write zeros with 6. fbr_number_text gives each number's
- * text.
+ * Numbers that fbr_fresh, fbr_batch, fbr_look_number, fbr_totals, fbr_occupancy and fbr_load return, checked in this
+ * order, 12 right after 7; fbr_totals and fbr_occupancy check 10 before 6. One of these calls that returns another
+ * number than 0 has changed nothing, except that fbr_totals and fbr_occupancy write zeros with 6. fbr_number_text gives
+ * each number's text.
  *    0  accepted
  *    1  N outside its limits                                                 fresh
  *    2  Nold is 0 or Nnew + Nold exceeds N                                   fresh
@@ -47,6 +47,7 @@
  *   10  answers, incoming or outgoing shorter than the batch needs           batch; totals: out below 4 numbers;
  *                                                                            occupancy: out below 16 words
  *   11  reads + writes + batch length above 2^56 - 1                         batch
+ *   13  seed 0, M outside, words above 1,024 or above the room lent          load
  */
 #ifndef FBR_H
 #define FBR_H
@@ -55,8 +56,8 @@
 #include <stdint.h>
 
 /* The version, as a number for #if (major * 10000 + minor * 100 + patch) and as a text. */
-#define FBR_VERSION 700
-#define FBR_VERSION_TEXT "0.7.0"
+#define FBR_VERSION 800
+#define FBR_VERSION_TEXT "0.8.0"
 
 #ifdef __cplusplus
 extern "C" {
@@ -76,7 +77,8 @@ enum {
     FBR_TOO_MANY_WORDS = 8,
     FBR_BAD_WORD = 9,
     FBR_SHORT_BUFFER = 10,
-    FBR_TOTALS_FULL = 11
+    FBR_TOTALS_FULL = 11,
+    FBR_BAD_LOAD = 13
 };
 
 /* What a returned number says, in one line without the number. */
@@ -95,6 +97,7 @@ static inline const char *fbr_number_text(uint32_t number) {
     case FBR_BAD_WORD: return "a block is M or more, a work word has a wrong kind, or a flush or tick has a value";
     case FBR_SHORT_BUFFER: return "a buffer is too short: answers, incoming, outgoing or out";
     case FBR_TOTALS_FULL: return "reads + writes + batch length exceeds 2^56 - 1";
+    case FBR_BAD_LOAD: return "a load has seed 0, M outside 1 to 262,144, or over 1,024 words or more than lent";
     default: return "not a number of this library";
     }
 }
@@ -249,6 +252,25 @@ static inline const char *fbr_class_text(uint32_t count_class) {
  * directory stays as it is. No data or store is lent.
  */
 uint32_t fbr_occupancy(const uint32_t *dir, size_t dir_len, uint32_t *out, size_t out_len);
+
+/* The most words that one call draws: as many as a batch takes. */
+enum { FBR_LOAD_WORDS = 1024 };
+
+/*
+ * A test load that anybody can repeat: count work words at the front of words, reads and writes of blocks below m; the
+ * rest of words stays. The same seed and m give the same words everywhere. They are drawn from the states of
+ * Marsaglia's 32-bit xorshift (shifts left 13, right 17, left 5), the seed being stepped before the first word: a
+ * write where the state mod 4 is 0, else a read; the block is (state div 4) mod m.
+ * Returns 0; or 13 where seed is 0, m outside its limits, count above 1,024 or words_len below count, and leaves words
+ * as they were. No batch over a store of m blocks or more refuses such words with 9.
+ */
+uint32_t fbr_load(uint32_t seed, uint32_t m, uint32_t count, uint32_t *words, size_t words_len);
+
+/*
+ * The state after count words, to be the seed of the words that follow: so batch after batch is one load. It is never
+ * 0, except where seed is 0 or count above 1,024.
+ */
+uint32_t fbr_load_state(uint32_t seed, uint32_t count);
 
 /*
  * The 32-bit FNV-1a of a block number's four bytes, low byte first.

@@ -14,12 +14,15 @@
 //! # Ok::<(), fbr::Refusal>(())
 //! ```
 //!
+//! [`Load`] draws a test load that every site can repeat.
+//!
 //! A call that declines changes nothing and says why by a [`Refusal`], which has a number. Nothing in this crate panics
 //! on what an archive returns: numbers and words that this version doesn't know are [`Refusal::Unknown`] and
 //! [`Answer::Unknown`].
 #![warn(missing_docs)]
 
 mod cache;
+mod load;
 mod memory;
 mod occupancy;
 mod refusal;
@@ -31,6 +34,7 @@ mod totals;
 mod words;
 
 pub use cache::{Cache, NotTaken, Parts, Ran};
+pub use load::Load;
 pub use memory::{Memory, View};
 pub use occupancy::{CountClass, Occupancy};
 pub use refusal::Refusal;

@@ -3,7 +3,7 @@ use std::fmt;
 /// Why a call declined. A declined call has changed nothing.
 ///
 /// The cases are checked in this order, 12 right after 7. [`fresh`](crate::fresh) gives 1 to 5, a batch 6 to 12, a look
-/// 6, 7, 12 or 9, a look into a buffer 10 too, totals, occupancy and settings 6.
+/// 6, 7, 12 or 9, a look into a buffer 10 too, totals, occupancy and settings 6, a [`Load`](crate::Load) 13.
 /// [`Cache::new`](crate::Cache::new) gives 1 to 4, 7 and 12, and [`Cache::from_parts`](crate::Cache::from_parts) 6, 7
 /// and 12.
 #[derive(Clone, Copy, Debug, PartialEq, Eq, Hash)]
@@ -33,6 +33,8 @@ pub enum Refusal {
     ShortBuffer,
     /// 11: reads + writes + batch length exceeds 2^56 − 1.
     TotalsFull,
+    /// 13: a load's seed is 0, its M outside 1 to 262,144, or its words above 1,024 or above the room lent.
+    BadLoad,
     /// A number that this crate doesn't know: the archive is of another version.
     Unknown(u32),
 }
@@ -52,6 +54,7 @@ impl Refusal {
         Refusal::BadWord,
         Refusal::ShortBuffer,
         Refusal::TotalsFull,
+        Refusal::BadLoad,
     ];
 
     /// The number that the C interface returns.
@@ -69,6 +72,7 @@ impl Refusal {
             Refusal::BadWord => 9,
             Refusal::ShortBuffer => 10,
             Refusal::TotalsFull => 11,
+            Refusal::BadLoad => 13,
             Refusal::Unknown(number) => number,
         }
     }
@@ -101,6 +105,7 @@ impl Refusal {
             Refusal::BadWord => "a block is M or more, a work word has a wrong kind, or a flush or tick has a value",
             Refusal::ShortBuffer => "a buffer is too short: answers, incoming, outgoing or out",
             Refusal::TotalsFull => "reads + writes + batch length exceeds 2^56 - 1",
+            Refusal::BadLoad => "a load has seed 0, M outside 1 to 262,144, or over 1,024 words or more than lent",
             Refusal::Unknown(_) => "unknown to this crate, so the archive is of another version",
         }
     }

@@ -50,6 +50,15 @@ extern "C" {
     /// it was; 6 where the directory is not sound, and writes sixteen 0s.
     pub fn fbr_occupancy(dir: *const u32, dir_len: usize, out: *mut u32, out_len: usize) -> u32;
 
+    /// A test load: `count` work words to the front of `words`; the rest of `words` stays. Returns 0; or 13 where
+    /// `seed` is 0, `m` outside its limits, `count` above 1,024 or `words_len` below `count`, and leaves `words` as
+    /// it was.
+    pub fn fbr_load(seed: u32, m: u32, count: u32, words: *mut u32, words_len: usize) -> u32;
+
+    /// The state after `count` words of a load, the seed of those that follow; 0 where `seed` is 0 or `count` above
+    /// 1,024.
+    pub fn fbr_load_state(seed: u32, count: u32) -> u32;
+
     /// The 32-bit FNV-1a of a block number's four bytes, low byte first.
     pub fn fbr_hash(block: u32) -> u32;
 
