@@ -7,6 +7,9 @@
  *   answer WORD       kind, value, then each FBR_ANSWER_ macro in the header's order
  *   word KIND VALUE   fbr_word, and the number of a batch of that one word over a store of the most blocks
  *   empty             the number of a batch without words over the pointers for empty slices
+ *   load SEED M COUNT LENGTH
+ *                     the number of a load into so many words, at most 4, or over the pointer for empty slices for 0;
+ *                     the state after it; then all four words, which were 7
  *   store LENGTH      a write and a flush over a store of so many bytes, M * B of which are right: the batch's number,
  *                     then a look's, the length of its part, and whether all memory was kept or something changed
  */
@@ -89,6 +92,14 @@ static void show_store(size_t length) {
     printf("%" PRIu32 " %" PRIu32 " %zu %s\n", number, look, part, after);
 }
 
+static void show_load(void) {
+    uint32_t seed = asked(), m = asked(), count = asked(), length = asked(), words[4] = {7, 7, 7, 7};
+    uint32_t number = fbr_load(seed, m, count, length == 0 ? fbr_no_words() : words, length);
+    printf("%" PRIu32 " %" PRIu32, number, fbr_load_state(seed, count));
+    for (int i = 0; i < 4; i++) printf(" %" PRIu32, words[i]);
+    printf("\n");
+}
+
 static int is(const char *a, const char *b) { return strcmp(a, b) == 0; }
 
 static int show(const char *question) {
@@ -99,6 +110,7 @@ static int show(const char *question) {
     else if (is(question, "answer")) show_answer(asked());
     else if (is(question, "word")) show_word();
     else if (is(question, "empty")) printf("%" PRIu32 "\n", number_of_none());
+    else if (is(question, "load")) show_load();
     else if (is(question, "store")) show_store(asked());
     else return 0;
     return 1;

@@ -111,6 +111,16 @@ pub fn table(dir: &[u32]) -> (u32, Table) {
     (occupancy(dir, &mut out), out)
 }
 
+/// Writes a load of `count` words to the front of `words` and returns 0, or changes nothing and returns 13.
+pub fn load(seed: u32, m: u32, count: u32, words: &mut [u32]) -> u32 {
+    unsafe { sys::fbr_load(seed, m, count, words.as_mut_ptr(), words.len()) }
+}
+
+/// The state after `count` words of a load; 0 where the seed is 0 or `count` above 1,024.
+pub fn load_state(seed: u32, count: u32) -> u32 {
+    unsafe { sys::fbr_load_state(seed, count) }
+}
+
 /// FNV-1a of a block number's four bytes, low byte first.
 pub fn hash(block: u32) -> u32 {
     unsafe { sys::fbr_hash(block) }

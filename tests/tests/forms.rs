@@ -178,6 +178,8 @@ fn entry_points_have_no_requires() {
         ("belt/src/lib.rt", "pub fn cycle("),
         ("header/src/lib.rt", "pub fn totals_in("),
         ("occupancy/src/lib.rt", "pub fn occupancy("),
+        ("load/src/lib.rt", "pub fn load("),
+        ("load/src/lib.rt", "pub fn load_state("),
         ("settings/src/lib.rt", "pub fn directory_words("),
     ] {
         let text = source(file);
@@ -197,8 +199,8 @@ fn quoted(text: &str) -> Vec<&str> {
     text.split('`').skip(1).step_by(2).collect()
 }
 
-/// Each public function of the C interface, the directory, the settings, FNV-1a, the numbers, a look and the occupancy
-/// has two wrong programs of its own: docs/PROOFS.md names them, a group for each function, and they are there.
+/// Each public function of the C interface, the directory, the settings, FNV-1a, the numbers, a look, the occupancy and
+/// the load has two wrong programs of its own: docs/PROOFS.md names them, a group for each function, and they are there.
 #[test]
 fn every_public_function_has_two_wrong_programs() {
     let proofs = fs::read_to_string(root().join("docs/PROOFS.md")).unwrap();
@@ -221,7 +223,7 @@ fn every_public_function_has_two_wrong_programs() {
         }
         told.extend(functions.iter().map(|name| name.rsplit("::").next().unwrap()));
     }
-    for name in ["fbr", "directory", "settings", "fnv", "batch_number", "numbers", "looks", "occupancy"] {
+    for name in ["fbr", "directory", "settings", "fnv", "batch_number", "numbers", "looks", "occupancy", "load"] {
         for line in source(&format!("{name}/src/lib.rt")).lines().map(str::trim) {
             let Some(rest) = line.strip_prefix("pub fn ").or(line.strip_prefix("pub extern \"C\" fn ")) else {
                 continue;

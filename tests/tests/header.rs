@@ -7,7 +7,7 @@ use std::sync::OnceLock;
 
 #[path = "../c/compile.rs"]
 mod compile;
-use cache_tests::reference::beside::NUMBERS;
+use cache_tests::reference::load::{states, word_of, BAD_LOAD};
 use cache_tests::reference::stack::answer::KINDS;
 use compile::{compiled, text, LANGUAGES};
 
@@ -155,11 +155,12 @@ fn the_library_exports_the_same_functions() {
 
 #[test]
 fn texts_of_the_numbers() {
-    let asked: Vec<u32> = (0..=NUMBERS as u32).chain([99, u32::MAX]).collect();
+    let asked: Vec<u32> = (0..=BAD_LOAD + 1).chain([99, u32::MAX]).collect();
     let said = header_says(&asked.iter().map(|number| format!("text {number}")).collect::<Vec<_>>());
-    assert_eq!((said[0].as_str(), said[NUMBERS].as_str()), ("accepted", "not a number of this library"));
-    assert!(said[NUMBERS..].iter().all(|text| *text == said[NUMBERS]));
-    for number in 1..NUMBERS as u32 {
+    let none = BAD_LOAD as usize + 1;
+    assert_eq!((said[0].as_str(), said[none].as_str()), ("accepted", "not a number of this library"));
+    assert!(said[none..].iter().all(|text| *text == said[none]));
+    for number in 1..=BAD_LOAD {
         let refusal = fbr::Refusal::from_number(number).unwrap();
         assert_eq!(format!("{number}: {}", said[number as usize]), refusal.to_string());
     }
@@ -189,7 +190,7 @@ fn refusals() -> Vec<Named> {
 fn tables_in_the_order_of_the_checks() {
     let named = refusals();
     let order: Vec<u32> = named.iter().map(|one| one.0).collect();
-    assert_eq!(order, [1, 2, 3, 4, 5, 6, 7, 12, 8, 9, 10, 11]);
+    assert_eq!(order, [1, 2, 3, 4, 5, 6, 7, 12, 8, 9, 10, 11, 13]);
 
     let header = text("include/fbr.h");
     let table = header.split("    0  accepted\n").nth(1).expect("a table").split(" */").next().unwrap();
@@ -212,6 +213,25 @@ fn a_store_of_the_wrong_size_in_c() {
     let said = header_says(&lengths.map(|length| format!("store {length}")));
     let (short, long) = ("7 7 0 kept", "12 12 0 kept");
     assert_eq!(said, [short, short, "0 0 1 changed", long, long, long]);
+}
+
+/// The C program's loads: the words at the front alone, none at all, and 13 with every word as it was.
+#[test]
+fn loads_in_c() {
+    let asked =
+        ["2463534242 100 3 4", "2463534242 100 0 0", "1 262144 4 4", "2463534242 100 3 2", "0 100 3 4", "1 0 1 4"];
+    let said = header_says(&asked.map(|load| format!("load {load}")));
+    let first = states(1).take(4).map(|state| format!(" {}", word_of(262_144, state)));
+    let (last, first) = (states(1).nth(3).unwrap(), first.collect::<String>());
+    let expected = [
+        "0 2064144800 268435484 268435482 536870912 7".to_string(),
+        "0 2463534242 7 7 7 7".to_string(),
+        format!("0 {last}{first}"),
+        "13 2064144800 7 7 7 7".to_string(),
+        "13 0 7 7 7 7".to_string(),
+        format!("13 {} 7 7 7 7", states(1).next().unwrap()),
+    ];
+    assert_eq!(said, expected);
 }
 
 /// The classes of the header are those of the Rust crate, by the same texts.

@@ -6,6 +6,10 @@ use std::process::Command;
 
 #[path = "../c/compile.rs"]
 mod compile;
+use cache_tests::reference::directory::{kind, value, word};
+use cache_tests::reference::load::{states, word_of};
+use cache_tests::reference::settings::{named, Profile};
+use cache_tests::reference::stack::{answer, work, PlainStack};
 use compile::{compiled, needed, printed, root, text, LANGUAGES};
 
 /// The one block of the manual that is fenced with these words.
@@ -85,16 +89,22 @@ fn the_manual_shows_the_files() {
     assert_eq!(shown("c"), text("docs/manual/small.c"));
     assert_eq!(shown("rust"), text("bindings/rust/examples/small.rs"));
     assert_eq!(shown("rust occupancy"), text("bindings/rust/examples/occupancy.rs"));
+    assert_eq!(shown("rust commission"), text("bindings/rust/examples/commission.rs"));
     assert!(text("docs/manual/map.c").contains(&shown("c map")));
+}
+
+/// A program of `docs/manual` prints what the manual says.
+fn as_shown(name: &str) {
+    let folder = folder(&format!("{name}_in_c"));
+    for language in &LANGUAGES {
+        let program = compiled(language, &format!("docs/manual/{name}.c"), &folder);
+        assert_eq!(printed(&mut Command::new(program)), shown(&format!("text {name}")), "{}", language.compiler);
+    }
 }
 
 #[test]
 fn the_c_program() {
-    let folder = folder("the_c_program");
-    for language in &LANGUAGES {
-        let program = compiled(language, "docs/manual/small.c", &folder);
-        assert_eq!(printed(&mut Command::new(program)), shown("text small"), "{}", language.compiler);
-    }
+    as_shown("small");
 }
 
 /// What lines of the manual print in a program, after its lines about sizes.
@@ -154,6 +164,46 @@ fn pins_in_c() {
 }
 
 #[test]
+fn a_load_in_c() {
+    after_the_sizes("a_load_in_c", &shown("c load"), &shown("text load"));
+}
+
+#[test]
+fn commissioning_in_c() {
+    as_shown("commission");
+}
+
+/// What the manual says that every site must see, by the reference alone: its load, its plain stack, its settings.
+#[test]
+fn commissioning_by_the_reference() {
+    const SEED: u32 = 2_463_534_242;
+    let s = named(Profile::Unix, 64, 64, 96);
+    let mut stack = PlainStack::new(s, vec![0; 96 * 64]);
+    let lent = stack.whole();
+    let (mut answers, mut outgoing, mut given) = (vec![0; 1_024], vec![0; 1_024 * 64], vec![]);
+    let words: Vec<u32> = states(SEED).take(100 * 1_024).map(|state| word_of(s.m, state)).collect();
+    let mut said = "batches  reads  writes  blocks in  blocks out  halvings\n".to_string();
+    let mut halvings = 0;
+    for (k, batch) in (1..).zip(words.chunks(1_024)) {
+        let incoming: Vec<u8> = (1..=1_024).flat_map(|j| (0..64).map(move |i| (k + 3 * j + 5 * i) as u8)).collect();
+        assert_eq!(stack.batch(lent, batch, &incoming, &mut answers, &mut outgoing), 0);
+        given.extend(&outgoing[..batch.iter().filter(|&&w| kind(w) == work::READ).count() * 64]);
+        let marked = |&&a: &&u32| [answer::HIT, answer::ENTERED].contains(&kind(a)) && value(a) >= answer::HALVED;
+        halvings += answers.iter().filter(marked).count();
+        if [1, 10, 100].contains(&k) {
+            let PlainStack { reads, writes, ins, outs, .. } = &stack;
+            said += &format!("{k:>7}  {reads:>5}  {writes:>6}  {ins:>9}  {outs:>10}  {halvings:>8}\n");
+        }
+    }
+    assert_eq!(stack.batch(lent, &[word(work::FLUSH, 0)], &[], &mut answers, &mut []), 0);
+    said += &format!("a flush: {} written out\n", value(answers[0]));
+    said += &format!("checksum of all bytes read: {:016x}\n", fnv64(&given));
+    said += &format!("checksum of the store: {:016x}\n", fnv64(&stack.store));
+    said += &format!("state of the load: {}\n", states(SEED).nth(words.len() - 1).unwrap());
+    assert_eq!(said, shown("text commission"));
+}
+
+#[test]
 fn saving_in_c() {
     let folder = folder("saving_in_c");
     for language in &LANGUAGES {
@@ -186,6 +236,7 @@ fn the_plain_lines() {
     assert_eq!(run(&shown("sh cc"), &repository), shown("text small"));
     assert_eq!(run(&shown("sh save"), &repository), shown("text save"));
     assert_eq!(run(&shown("sh map"), &repository), shown("text map"));
+    assert_eq!(run(&shown("sh commission"), &repository), shown("text commission"));
 }
 
 #[test]
@@ -220,6 +271,10 @@ fn a_flights_boarding() {
 #[test]
 fn a_large_purge() {
     assert_eq!(example("purge"), shown("text purge"));
+}
+#[test]
+fn commissioning() {
+    assert_eq!(example("commission"), shown("text commission"));
 }
 #[test]
 fn the_occupancy_of_a_day() {

@@ -1,14 +1,15 @@
-//! The Rust wrapper in `bindings/rust` beside the plain stack: numbers, words, bytes, looks, totals, occupancy and
-//! settings, over lent memory and over a cache that owns its memory.
+//! The Rust wrapper in `bindings/rust` beside the reference: numbers, words, bytes, looks, totals, occupancy and settings,
+//! over lent memory and over a cache that owns its memory; and test loads.
 use cache_tests::reference::beside::{self, Tested, NUMBERS};
 use cache_tests::reference::directory::{kind, value, word};
 use cache_tests::reference::histories;
+use cache_tests::reference::load::{self, BAD_LOAD};
 use cache_tests::reference::occupancy::{of_stack, Table, NONE};
 use cache_tests::reference::rng::Rng;
-use cache_tests::reference::settings::{directory_length, named, Profile, MAX_CMAX, MAX_N, PROFILES};
+use cache_tests::reference::settings::{directory_length, named, Profile, MAX_CMAX, MAX_M, MAX_N, PROFILES};
 use cache_tests::reference::stack::{answer, work, PlainStack};
 use cache_tests::{Settings, BELT};
-use fbr::{Answer, Cache, CountClass, Memory, NotTaken, Occupancy, Parts, Refusal, Totals, View, Work};
+use fbr::{Answer, Cache, CountClass, Load, Memory, NotTaken, Occupancy, Parts, Refusal, Totals, View, Work};
 use std::hint::black_box;
 
 const WRAPPER: Tested = Tested { fresh, batch, sound: fbr::sound, look, occupancy };
@@ -339,10 +340,39 @@ fn directory_lengths_inside_and_outside_the_limits() {
     }
 }
 
+/// Batches of a load as words and as `Work`, with the states between, and what a wrong seed, M or count gets.
+#[test]
+fn loads_through_the_wrapper() {
+    let mut rng = Rng::announced("loads_through_the_wrapper", 126);
+    let mut batches = 0;
+    for _ in 0..300 {
+        let (seed, m, count) = (rng.word().max(1), rng.within(1, MAX_M), rng.within(0, Load::MOST_WORDS));
+        let mut load = Load::new(seed, m, count).unwrap();
+        let mut words = load::states(seed).map(|state| load::word_of(m, state));
+        let (mut as_words, mut state) = (load.clone(), seed);
+        for batch in load.by_ref().take(4) {
+            let expected: Vec<u32> = words.by_ref().take(count as usize).collect();
+            assert!(batch.iter().map(|work| work.word()).eq(expected.iter().copied()), "{seed} {m} {count}");
+            assert_eq!((as_words.state(), as_words.next_words()), (state, Some(expected)), "{seed} {m} {count}");
+            state = load::load_state(state, count);
+            batches += 1;
+        }
+        assert_eq!((load.state(), as_words), (state, load));
+        for (seed, m, count) in
+            [(0, m, count), (seed, 0, count), (seed, MAX_M + 1, count), (seed, m, 1_025), (seed, m, u32::MAX)]
+        {
+            assert_eq!(Load::new(seed, m, count), Err(Refusal::BadLoad), "{seed} {m} {count}");
+        }
+    }
+    println!("{batches} batches of loads");
+    let mut none = Load::new(1, 1, 0).unwrap();
+    assert_eq!((none.next(), none.state(), none.next()), (Some(vec![]), 1, Some(vec![])));
+}
+
 #[test]
 fn unknown_numbers_and_words() {
     assert_eq!(Refusal::from_number(0), None);
-    for number in 1..NUMBERS as u32 {
+    for number in 1..=BAD_LOAD {
         let known = Refusal::from_number(number).unwrap();
         assert!(Refusal::ALL.contains(&known) && known.number() == number);
     }

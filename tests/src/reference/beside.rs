@@ -35,7 +35,7 @@ pub struct Call {
     pub outgoing: Vec<u8>,
 }
 
-/// The numbers that calls return, 0 among them.
+/// The numbers that fresh, batches and looks return, 0 among them.
 pub const NUMBERS: usize = 13;
 
 /// Returned numbers, answers by kind and answers with counts halved, each counted.

@@ -9,6 +9,7 @@ pub mod fast_judge;
 pub mod fnv;
 pub mod histories;
 pub mod judge;
+pub mod load;
 pub mod lru_cache;
 pub mod marks;
 pub mod occupancy;
