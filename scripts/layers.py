@@ -13,7 +13,7 @@ WIDTH, MARGIN, LABELS, CAPTION = 1200, 20, 168, 62  # LABELS: width of the colum
 BOX_WIDTH, BOX_HEIGHT, ROW, PAD, GAP, SPACE = 112, 30, 62, 18, 10, 24
 # one for each layer from the bottom: the band; its headings, borders and the lines to its crates
 COLOURS = [("#f1f0ec", "#77735f"), ("#eaf1fa", "#3d70ad"), ("#eaf5ec", "#33804f"), ("#fdf2e3", "#b06d12"),
-           ("#fae9ec", "#b03c54"), ("#f1ebf8", "#7550a3")]
+           ("#fae9ec", "#b03c54"), ("#e6f4f4", "#1f7a7d"), ("#f1ebf8", "#7550a3")]
 NOTES = ["A line leads from a crate down to one that it cites; its colour is that of the cited crate's layer. "
          "A line is left out where a longer way along lines says the same.",
          "Nearly every crate cites some of the definitions: no lines are drawn to them. "
