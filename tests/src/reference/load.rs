@@ -1,5 +1,5 @@
-//! The test load, from the request's text. A state is a row of bits, so that a shift is a change of places and needs no
-//! cutting.
+//! The test load, by the request's text; written with the library's definitions known. A state is a row of bits, so that
+//! a shift is a change of places and needs no cutting.
 use super::directory::word;
 use super::settings::MAX_M;
 use super::stack::work;
