@@ -2,11 +2,13 @@
 use Prim.Native.Nat.{ℕ, _+_, _-_, _*_, _^_, _≤_, _<_}
 use native.Mathlib.Omega.{arith}
 use mathlib.Core.Path.{_≡_, refl, sym, ap, subst, _∙_}
+use mathlib.Core.Logic.{inl, ⊎-elim}
 use mathlib.Core.Bool.{Bool, true, false, not}
 use mathlib.Core.Option.{none, some}
 use mathlib.Core.List.{List}
 use lib.ListN.{length, replicate}
 use lib.Dec.{T}
+use mir.Facts.{T-not}
 use Rattle.basics.specs.Basics.{pick, blockAt, putBlock}
 use Rattle.settings.specs.declared.Settings.{Settings}
 use Rattle.stack.specs.Counts.{chains}
@@ -14,12 +16,12 @@ use Rattle.stack.specs.Recency.{Place, lookup, countsPins}
 use Rattle.stack.specs.Stack.{Answer, hit, entered, replaced, purged, absent, flushed, answering, answerWord, missRefused, pinned, purgeRefused}
 use Rattle.stack.specs.BufferLaws.{length-blockAt, length-putBlock, put-same}
 use Rattle.stack.specs.ReportLaws.{demanded-few}
-use Rattle.stack.specs.PlaceLaws.{Placed, hits, enters, replaces, refusing}
+use Rattle.stack.specs.PlaceLaws.{Placed, hits, enters, replaces, refusing, all-found}
 use Rattle.layout.specs.Sound.{settingsIn, sound, residentAt, residentsIn}
 use Rattle.layout.specs.SoundLaws.{sound-legal, sound-residents}
 use Rattle.promises.specs.DirectoryPromises.{placeOf, Accessed, Purged, Pinned}
 use Rattle.promises.specs.Demand3.{Memory}
-use Rattle.cache_steps.specs.Carried.{settingsOf, memory}
+use Rattle.cache_steps.specs.Carried.{settingsOf, memory, Ready}
 use Rattle.cache_steps.specs.Told.{storeAfter, bytesRead, bytesAfter}
 use Rattle.cache_steps.specs.FrontLaws.{put-own}
 use Rattle.cache_steps.specs.Places.{placed-in, store-room}
@@ -28,7 +30,8 @@ use Rattle.cache_steps.specs.PurgeStep.{purge-carried, absent-carried, refused-
 use Rattle.cache_steps.specs.PinStep.{pin-carried, pin-absent}
 use Rattle.promises.specs.DirectoryReady.{HitReady, MissReady, EnterReady, ResidentReady}
 use Rattle.accesses.specs.declared.Asked.{Asked}
-use Rattle.accesses.specs.Done.{AccessReady, MissesReady, ReplacesReady, isHit, ReadDone, WriteDone, PurgeDone, PinDone, AskedDone, PinnedDone}
+use Rattle.accesses.specs.Done.{Clean, AskReady, AccessReady, MissesReady, ReplacesReady}
+use Rattle.accesses.specs.Done.{isHit, ReadDone, WriteDone, PurgeDone, PinDone, AskedDone, PinnedDone}
 use Rattle.stack.specs.PinLaws.{isRefused}
 
 -- ---- answers of a read or a write
@@ -87,25 +90,48 @@ module _ (d : List ℕ) (ok : T (sound d)) (b : ℕ) where
 
 -- ---- the victim written out
 
+-- what is asked where the victim is written out
+pub where-out : {X : Type 0} (out : Bool) → out ≡ true → (T out → X) → X
+where-out true e asks = asks tt
+where-out false e asks = asks (subst T (sym e) tt)
+
+-- among residents of which none is modified no victim is
+victim-clean : (d : List ℕ) → T (sound d) → (b : ℕ) → Clean (residentsIn d) → {k e v n : ℕ} {written out : Bool} {after : List ℕ}
+    → Accessed k d b written e (replaced v n out) after → T (not out)
+unfolding answering
+victim-clean d ok b clean {v = v} {n = n} {out = out} accessed = go (placeOf d b) (placed-in d ok b) _ _ (accessed .answer-is)
+  where
+    go : (q : Place ℕ) → Placed (settingsIn d) (residentsIn d) q → (looked : ℕ) (h : Bool) → answering looked h q ≡ replaced v n out → T (not out)
+    go q (hits p x c e legal up) looked h is = let z : _≡_ {A = ℕ} 0 1 = cc in absurd (omega arith)
+    go q (enters u) looked h is = let z : _≡_ {A = ℕ} 0 1 = cc in absurd (omega arith)
+    go q (replaces w x e full u c) looked h is =
+        let same : x .marks .modified ≡ out = cc in
+        subst (λ t. T (not t)) same (all-found (λ y. T (not (y .marks .modified))) (residentsIn d) w x clean e)
+    go q (refusing full all) looked h is = let z : _≡_ {A = ℕ} 0 1 = cc in absurd (omega arith)
+
 module _ (m : Memory) (s : Settings) (block : ℕ) (ready : ReplacesReady m s block) (written : Bool) {k e v n : ℕ} {out : Bool} {d : List ℕ}
     (accessed : Accessed k (m .directory) block written e (replaced v n out) d) where
   size-read : s .b ≡ settingsOf m .b
   size-read = ap (λ (t : Settings). t .b) (ready .settings-are)
 
-  pub write-out-room : (s .b ≤ 4096) × (1 ≤ e) × ((e - 1) * s .b + s .b ≤ length (m .bytes)) × (v * s .b + s .b ≤ length (m .store))
-  write-out-room =
+  lent-room : Ready m → (s .b ≤ 4096) × (1 ≤ e) × ((e - 1) * s .b + s .b ≤ length (m .bytes)) × (v * s .b + s .b ≤ length (m .store))
+  lent-room lent =
       rw size-read (
-        sound-legal (m .directory) (ready .ready .is-sound) .few-bytes,
-        access-least m (ready .ready) block written accessed tt,
-        access-entry m (ready .ready) block written accessed tt,
-        victim-block m (ready .ready) block written accessed,
+        sound-legal (m .directory) (ready .is-sound) .few-bytes,
+        access-least m lent block written accessed tt,
+        access-entry m lent block written accessed tt,
+        victim-block m lent block written accessed,
       )
+
+  pub write-out-room : T out → (s .b ≤ 4096) × (1 ≤ e) × ((e - 1) * s .b + s .b ≤ length (m .bytes)) × (v * s .b + s .b ≤ length (m .store))
+  write-out-room t =
+      ⊎-elim lent-room (λ clean. absurd (T-not out t (victim-clean (m .directory) (ready .is-sound) block clean accessed))) (ready .lent)
 
   pub replaced-small : (v < 2 ^ 18) × (n ≤ 64)
   replaced-small =
-      let h = victim-below m (ready .ready) block written accessed in
-      let g = sound-legal (m .directory) (ready .ready .is-sound) .few-stored in
-      (omega arith, chains-few (m .directory) (ready .ready .is-sound) block accessed)
+      let h = victim-below (m .directory) (ready .is-sound) block written accessed in
+      let g = sound-legal (m .directory) (ready .is-sound) .few-stored in
+      (omega arith, chains-few (m .directory) (ready .is-sound) block accessed)
 
   pub replaced-done : k ≤ 20 → (store : List ℕ) → store ≡ pick out (putBlock (s .b) v (blockAt (s .b) (e - 1) (m .bytes)) (m .store)) (m .store)
       → (word : ℕ) → word ≡ answerWord (replaced v n out) → AskedDone m block written (record { entry = e; answer = word; resident = false }) d store
@@ -125,7 +151,7 @@ module _ (m : Memory) (s : Settings) (block : ℕ) (ready : ReplacesReady m s bl
 
 pub miss-ready : (m : Memory) (s : Settings) (block : ℕ) → MissesReady m s block → MissReady (m .directory) block
 miss-ready m s block h =
-    record { is-sound = h .access .ready .is-sound; inside = h .access .inside; absent = h .absent; countable = h .access .countable }
+    record { is-sound = h .access .is-sound; inside = h .access .inside; absent = h .absent; countable = h .access .countable }
 
 pub enter-ready : (m : Memory) (s : Settings) (block n : ℕ) → MissesReady m s block → n ≡ length (residentsIn (m .directory)) → n < s .n
     → EnterReady (m .directory) block × (s ≡ settingsOf m)
@@ -137,20 +163,21 @@ pub replace-ready : (m : Memory) (s : Settings) (block n : ℕ) → MissesReady 
     → ReplacesReady m s block
 replace-ready m s block n h is full =
     let e = ap (λ (t : Settings). t .n) (h .access .settings-are) in
-    let few = sound-residents (m .directory) (h .access .ready .is-sound) .few in
+    let few = sound-residents (m .directory) (h .access .is-sound) .few in
     record {
-      ready = h .access .ready;
+      is-sound = h .access .is-sound;
       settings-are = h .access .settings-are;
+      lent = h .access .lent;
       replace = record { miss = miss-ready m s block h; full = omega arith };
     }
 
 -- ---- a hit
 
-pub hit-ready : (m : Memory) (s : Settings) (block e : ℕ) → AccessReady m s block
+pub hit-ready : (m : Memory) (s : Settings) (block e : ℕ) → AskReady m s block
     → lookup block (residentsIn (m .directory)) ≡ some (residentAt (m .directory) e)
     → HitReady (m .directory) e × (s ≡ settingsOf m)
 hit-ready m s block e h here =
-    (record { is-sound = h .ready .is-sound; resident = record { block = block; here = here }; countable = h .countable }, h .settings-are)
+    (record { is-sound = h .is-sound; resident = record { block = block; here = here }; countable = h .countable }, h .settings-are)
 
 pub hit-done : (m : Memory) (block : ℕ) (written : Bool) {e n : ℕ} {halved : Bool} {d : List ℕ} → Accessed 16 (m .directory) block written e (hit n halved) d
     → (word : ℕ) → word ≡ answerWord (hit n halved) → AskedDone m block written (record { entry = e; answer = word; resident = true }) d (m .store)
@@ -159,6 +186,17 @@ hit-done m block written {n = n} {halved = halved} accessed word word-is =
     { answer = hit n halved; links = 16; few = omega arith; accessed = accessed; taken = tt; word-is = word-is; resident-is = refl; store-is = refl }
 
 -- ---- bytes of the word
+
+-- with data and store lent
+pub ask-ready : (m : Memory) (s : Settings) (block : ℕ) → AccessReady m s block → AskReady m s block
+ask-ready m s block h =
+    record {
+      is-sound = h .ready .is-sound;
+      settings-are = h .settings-are;
+      inside = h .inside;
+      countable = h .countable;
+      lent = inl (h .ready);
+    }
 
 pub size-few : (m : Memory) (s : Settings) (block : ℕ) → AccessReady m s block → s .b ≤ 4096
 size-few m s block ready = rw (ready .settings-are) (sound-legal (m .directory) (ready .ready .is-sound) .few-bytes)

@@ -2,15 +2,16 @@
 -- Statements only.
 use Prim.Native.Nat.{ℕ, _<_, _≤_}
 use mathlib.Core.Path.{_≡_}
+use mathlib.Core.Logic.{_⊎_}
 use mathlib.Core.Bool.{Bool, true, false, not}
 use mathlib.Core.Option.{none}
 use mathlib.Core.List.{List, []}
 use lib.Dec.{T}
-use Rattle.basics.specs.Basics.{putBlock}
+use Rattle.basics.specs.Basics.{All, putBlock}
 use Rattle.settings.specs.declared.Settings.{Settings}
-use Rattle.stack.specs.Recency.{lookup}
+use Rattle.stack.specs.Recency.{Resident, lookup}
 use Rattle.stack.specs.Stack.{Work, read, write, purge, Answer, hit, entered, replaced, purged, absent, flushed, missRefused, pinned, purgeRefused, answerWord}
-use Rattle.layout.specs.Sound.{residentsIn}
+use Rattle.layout.specs.Sound.{sound, residentsIn}
 use Rattle.promises.specs.DirectoryPromises.{Accessed}
 use Rattle.promises.specs.Demand3.{Memory}
 use Rattle.cache_steps.specs.Carried.{settingsOf, memory, Ready, Carried}
@@ -24,23 +25,36 @@ use Rattle.stack.specs.PinLaws.{isRefused}
 
 -- ---- before
 
--- a block of the store may be asked for
+-- residents of which none is modified
+abbrev pub Clean : List (Resident ℕ) → Type 0
+Clean = All (λ x. T (not (x .marks .modified)))
+
+-- A block of the store may be asked for. Data and store are lent, or there is no need of them: no resident is modified.
+pub record AskReady (m : Memory) (s : Settings) (block : ℕ) : Type 0 where
+  pub is-sound : T (sound (m .directory))
+  pub settings-are : s ≡ settingsOf m
+  pub inside : block < settingsOf m .m
+  pub countable : Countable (m .directory)
+  pub lent : Ready m ⊎ Clean (residentsIn (m .directory))
+
+-- and no resident has it
+pub record MissesReady (m : Memory) (s : Settings) (block : ℕ) : Type 0 where
+  pub access : AskReady m s block
+  pub absent : lookup block (residentsIn (m .directory)) ≡ none
+
+-- and no entry is unused
+pub record ReplacesReady (m : Memory) (s : Settings) (block : ℕ) : Type 0 where
+  pub is-sound : T (sound (m .directory))
+  pub settings-are : s ≡ settingsOf m
+  pub lent : Ready m ⊎ Clean (residentsIn (m .directory))
+  pub replace : ReplaceReady (m .directory) block
+
+-- a block of the store may be read or written
 pub record AccessReady (m : Memory) (s : Settings) (block : ℕ) : Type 0 where
   pub ready : Ready m
   pub settings-are : s ≡ settingsOf m
   pub inside : block < settingsOf m .m
   pub countable : Countable (m .directory)
-
--- and no resident has it
-pub record MissesReady (m : Memory) (s : Settings) (block : ℕ) : Type 0 where
-  pub access : AccessReady m s block
-  pub absent : lookup block (residentsIn (m .directory)) ≡ none
-
--- and no entry is unused
-pub record ReplacesReady (m : Memory) (s : Settings) (block : ℕ) : Type 0 where
-  pub ready : Ready m
-  pub settings-are : s ≡ settingsOf m
-  pub replace : ReplaceReady (m .directory) block
 
 -- ---- after
 

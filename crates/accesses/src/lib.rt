@@ -11,7 +11,8 @@ ghost use Rattle.basics.specs.Basics.{pick, blockAt, putBlock};
 ghost use Rattle.layout.specs.Sound.{settingsIn, sound};
 ghost use Rattle.cache_steps.specs.Carried.{memory};
 ghost use Rattle.promises.specs.DirectoryReady.{EnterReady};
-ghost use Rattle.accesses.specs.Done.{AccessReady, ReplacesReady, MissesReady, AskedDone, AccessDone, ReadDone, WriteDone, PurgeDone, PinDone};
+ghost use Rattle.accesses.specs.Done.{AskReady, AccessReady, ReplacesReady, MissesReady};
+ghost use Rattle.accesses.specs.Done.{AskedDone, AccessDone, ReadDone, WriteDone, PurgeDone, PinDone};
 
 // Where the block is after a read or a write, its answer word, and whether it was resident before.
 pub struct Asked {
@@ -43,7 +44,8 @@ fn enter(dir: &mut [u32], block: u32, written: bool, s: Settings) -> Asked
 
 // A modified victim's bytes go to the store.
 fn write_out(bytes: &[u8], entry: u32, store: &mut [u8], victim: u32, out: bool, size: u32)
-    requires { ⌜ (size ≤ 4096) × (1 ≤ entry) × ((entry - 1) * size + size ≤ length (now bytes)) × (victim * size + size ≤ length (now store)) ⌝ }
+    requires { ⌜ (T out → (size ≤ 4096) × (1 ≤ entry) × ((entry - 1) * size + size ≤ length (now bytes))
+        × (victim * size + size ≤ length (now store))) ⌝ }
     ensures { λ _. ⌜ now (store .exit) ≡ pick out (putBlock size victim (blockAt size (entry - 1) (now (bytes .entry))) (now (store .entry))) (now (store .entry)) ⌝ }
 {
     if out {
@@ -94,8 +96,8 @@ fn miss(
     replace(dir, bytes, store, block, written, s)
 }
 
-// The block is asked for; a modified victim is written out.
-fn access(
+// The block is asked for; a modified victim is written out. Where none is modified, data and store are not looked at and may be empty.
+pub fn access(
     dir: &mut [u32],
     bytes: &[u8],
     store: &mut [u8],
@@ -103,7 +105,7 @@ fn access(
     written: bool,
     s: Settings,
 ) -> Place
-    requires { ⌜ AccessReady (memory (now dir) (now bytes) (now store)) s block ⌝ }
+    requires { ⌜ AskReady (memory (now dir) (now bytes) (now store)) s block ⌝ }
     ensures { λ r. ⌜ AccessDone (memory (now (dir .entry)) (now (bytes .entry)) (now (store .entry)))
         block written (now (dir .exit)) (now (store .exit)) r ⌝ }
 {

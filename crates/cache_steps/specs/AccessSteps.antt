@@ -14,7 +14,7 @@ use Rattle.stack.specs.Stack.{Work, read, write, Answer, replaced, leaving, sav
 use Rattle.stack.specs.Entries.{entryBytes, entryFor, filled, entryStep, Pick, filledAt}
 use Rattle.stack.specs.EntriesLaws.{Entry, entry-placed}
 use Rattle.stack.specs.ForgetLaws.{length-savedAll}
-use Rattle.layout.specs.Sound.{totalsIn, residentsIn, view}
+use Rattle.layout.specs.Sound.{settingsIn, totalsIn, sound, residentsIn, view}
 use Rattle.layout.specs.SoundLaws.{sound-residents}
 use Rattle.words.specs.Links.{linksChanged}
 use Rattle.promises.specs.Promises.{isStill}
@@ -177,9 +177,11 @@ victim-at s (unused l) t n h v looked out is = let z : _≡_ {A = ℕ} 0 1 = cc 
 victim-at s (allPinned l) t n h v looked out is = let z : _≡_ {A = ℕ} 0 1 = cc in absurd (omega arith)
 victim-at s (replacing x l) t n h v looked out is = let same : x .block ≡ v = cc in let g = t .stored in omega arith
 
-module _ (m : Memory) (ready : Ready m) (b : ℕ) (written : Bool) where
-  pub victim-below : {k e v n : ℕ} {out : Bool} {d : List ℕ} → Accessed k (m .directory) b written e (replaced v n out) d → v < settingsOf m .m
-  victim-below {v = v} {n = n} {out = out} accessed = victim-at (settingsOf m) (placeOf (m .directory) b) (place-stands (m .directory) (ready .is-sound) b) _ _ v n out (accessed .answer-is)
+pub victim-below : (before : List ℕ) → T (sound before) → (b : ℕ) (written : Bool) {k e v n : ℕ} {out : Bool} {d : List ℕ}
+    → Accessed k before b written e (replaced v n out) d → v < settingsIn before .m
+victim-below before ok b written {v = v} {n = n} {out = out} accessed =
+    victim-at (settingsIn before) (placeOf before b) (place-stands before ok b) _ _ v n out (accessed .answer-is)
 
-  pub victim-block : {k e v n : ℕ} {out : Bool} {d : List ℕ} → Accessed k (m .directory) b written e (replaced v n out) d → v * settingsOf m .b + settingsOf m .b ≤ length (m .store)
-  victim-block {v = v} accessed = store-room m ready v (victim-below accessed)
+pub victim-block : (m : Memory) → Ready m → (b : ℕ) (written : Bool) {k e v n : ℕ} {out : Bool} {d : List ℕ}
+    → Accessed k (m .directory) b written e (replaced v n out) d → v * settingsOf m .b + settingsOf m .b ≤ length (m .store)
+victim-block m ready b written {v = v} accessed = store-room m ready v (victim-below (m .directory) (ready .is-sound) b written accessed)

@@ -14,18 +14,19 @@ pub front-copied : (part out after : List ℕ) → after ≡ take (length part) 
 front-copied part out after e h = rw (le-leb _ _ h) (rw (take-length part) at e)
 
 -- xs stored from word i on
-abbrev pub stores : List ℕ → ℕ → List ℕ → List ℕ
-stores [] i out = out
-stores (x ∷ xs) i out = stores xs (suc i) (set out i x)
+module _ {A : Type 0} where
+  abbrev pub stores : List A → ℕ → List A → List A
+  stores [] i out = out
+  stores (x ∷ xs) i out = stores xs (suc i) (set out i x)
 
-past-first : (xs : List ℕ) (i y : ℕ) (out : List ℕ) → stores xs (suc i) (y ∷ out) ≡ y ∷ stores xs i out
-past-first [] i y out = refl
-past-first (x ∷ xs) i y out = past-first xs (suc i) y (set out i x)
+  past-first : (xs : List A) (i : ℕ) (y : A) (out : List A) → stores xs (suc i) (y ∷ out) ≡ y ∷ stores xs i out
+  past-first [] i y out = refl
+  past-first (x ∷ xs) i y out = past-first xs (suc i) y (set out i x)
 
-pub stores-over : (xs out : List ℕ) → length xs ≤ length out → stores xs 0 out ≡ over xs out
-stores-over [] out h = refl
-stores-over (x ∷ xs) [] h = absurd (omega arith)
-stores-over (x ∷ xs) (y ∷ out) h = past-first xs 0 x out ∙ ap (λ l. x ∷ l) (stores-over xs out (omega arith))
+  pub stores-over : (xs out : List A) → length xs ≤ length out → stores xs 0 out ≡ over xs out
+  stores-over [] out h = refl
+  stores-over (x ∷ xs) [] h = absurd (omega arith)
+  stores-over (x ∷ xs) (y ∷ out) h = past-first xs 0 x out ∙ ap (λ l. x ∷ l) (stores-over xs out (omega arith))
 
 -- one number more of a front
 front-further : (xs out : List ℕ) (i : ℕ) → i < length xs → length xs ≤ length out

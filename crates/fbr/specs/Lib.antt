@@ -3,3 +3,4 @@ pub mod FrontLaws
 pub mod Named
 pub mod Totals
 pub mod Occupancy
+pub mod Comparison

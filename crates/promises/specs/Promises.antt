@@ -19,7 +19,7 @@ use Rattle.layout.specs.Layout.{freshWords, freshNumber}
 use Rattle.layout.specs.Sound.{settingsIn, totalsIn, sound, view}
 
 -- A buffer whose front was written, the rest untouched.
-abbrev pub over : List ℕ → List ℕ → List ℕ
+abbrev pub over : {A : Type 0} → List A → List A → List A
 over front buffer = front ++ drop (length front) buffer
 
 -- ---- fresh

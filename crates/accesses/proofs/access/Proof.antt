@@ -36,7 +36,11 @@ hit-requires : tie.Need-hit-requires
 hit-requires c κs = hit-ready _ _ _ _ (c .before .before .before .before .before .before .before .before .before .pre) (c .before .before .before .before .lookup .ensures ∙ ap (foundResident _) (c .before .before .e .given .1))
 
 hit-word-requires : tie.Need-hit-word-requires
-hit-word-requires c κs = count-few _ (c .before .before .before .before .before .before .before .before .before .before .before .before .pre .ready .is-sound) _ (c .before .before .hit .ensures _ (c .before .before .before .before .before .before .before .lookup .ensures ∙ ap (foundResident _) (c .before .before .before .before .before .e .given .1)))
+hit-word-requires c κs =
+    count-few _ (c .before .before .before .before .before .before .before .before .before .before .before .before .pre .is-sound) _
+    (c .before .before .hit .ensures _
+    (c .before .before .before .before .before .before .before .lookup .ensures
+    ∙ ap (foundResident _) (c .before .before .before .before .before .e .given .1)))
 
 same-length-3 : tie.Need-same-length-3
 same-length-3 c = search needs

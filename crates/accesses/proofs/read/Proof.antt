@@ -1,4 +1,4 @@
-use Rattle.accesses.proofs.Laws.{size-few, entry-least, bring-in-room, brought-room, read-done, read-refused}
+use Rattle.accesses.proofs.Laws.{ask-ready, size-few, entry-least, bring-in-room, brought-room, read-done, read-refused}
 use Rattle.accesses.specs.Done.{AccessDone}
 use mathlib.Core.Path.{subst}
 use borrow.Author.Needs.{needs}
@@ -13,7 +13,7 @@ use Rattle.blocks.proofs.clear_block.Reads as clear-block-reads
 use Rattle.blocks.proofs.move_block.Reads as move-block-reads
 
 access-requires : tie.Need-access-requires
-access-requires c κs = search needs
+access-requires c κs = ask-ready _ _ _ (c .before .before .before .before .before .before .before .pre .0)
 
 enum-known-a : tie.Need-enum-known-a
 enum-known-a c = search needs

@@ -1,4 +1,4 @@
-use Rattle.accesses.proofs.Laws.{size-few, entry-least, entry-room, write-done, write-refused}
+use Rattle.accesses.proofs.Laws.{ask-ready, size-few, entry-least, entry-room, write-done, write-refused}
 use Rattle.accesses.specs.Done.{AccessDone}
 use mathlib.Core.Path.{subst}
 use borrow.Author.Needs.{needs}
@@ -11,7 +11,7 @@ use Rattle.answers.proofs.all_pinned_word.Reads as all-pinned-word-reads
 use Rattle.blocks.proofs.move_block.Reads as move-block-reads
 
 access-requires : tie.Need-access-requires
-access-requires c κs = search needs
+access-requires c κs = ask-ready _ _ _ (c .before .before .before .before .before .before .before .pre .0)
 
 enum-known-a : tie.Need-enum-known-a
 enum-known-a c = search needs

@@ -1,3 +1,4 @@
+use Rattle.accesses.proofs.Laws.{where-out}
 use borrow.Author.Needs.{needs}
 use Rattle.accesses.proofs.write_out.Statement.{statement}
 use Rattle.accesses.proofs.write_out.Tie as tie
@@ -6,10 +7,12 @@ use Rattle.accesses.proofs.write_out.Lts as lts
 use Rattle.blocks.proofs.move_block.Reads as move-block-reads
 
 sub-move-block : tie.Need-sub-move-block
-sub-move-block c = search needs
+sub-move-block c = where-out _ (c .if1 .taken) (c .before .before .before .pre) .1
 
 move-block-requires : tie.Need-move-block-requires
-move-block-requires c κs = search needs
+move-block-requires c κs =
+    let asks = where-out _ (c .before .if1 .taken) (c .before .before .before .before .pre) in
+    (asks .0, asks .2, asks .3)
 
 same-length : tie.Need-same-length
 same-length c = search needs

@@ -1,0 +1,4 @@
+pub mod Compare
+pub mod Reading
+pub mod CompareLaws
+pub mod Examples
