@@ -4,13 +4,14 @@
  * Every call works on memory that the caller lends for the length of the call. Nothing is kept between calls,
  * nothing is allocated and nothing is freed: directory, data and store are the caller's, and the whole state of a
  * cache stands in them. Slices pass as a pointer and an element count: 32-bit words for directory, work, answers,
- * settings, occupancy and loads, 64-bit numbers for totals, bytes for data, store, incoming and outgoing. A pointer
- * must not be null and must be aligned for its elements, also where the count is 0: fbr_no_bytes and fbr_no_words give
- * pointers for that. Slices that one call may write to must not overlap any other slice of that call. Nothing may run
- * beside fbr_batch or fbr_fresh over the same cache; the other calls only read a cache and may run beside each other.
- * No call may write to memory that another running call uses. Calls over different memory never meet.
+ * settings, occupancy, loads and traces, signed 32-bit numbers for comparisons, 64-bit numbers for totals, bytes for
+ * data, store, incoming and outgoing. A pointer must not be null and must be aligned for its elements, also where the
+ * count is 0: fbr_no_bytes and fbr_no_words give pointers for that. Slices that one call may write to must not overlap
+ * any other slice of that call. Nothing may run beside fbr_batch or fbr_fresh over the same cache; the other calls only
+ * read a cache, or none, and may run beside each other. No call may write to memory that another running call uses.
+ * Calls over different memory never meet.
  *
- * Platform: the archive is for x86-64 Linux. The words of directory, work and answers have
+ * Platform: the archive is for x86-64 Linux. The words of directory, work, answers and traces have
  * the machine's byte order, which there is low byte first.
  *
  * Settings: N cache blocks (1 to 4,096), of which Nnew form the new section and Nold the old one (Nold at least 1,
@@ -28,15 +29,15 @@
  *   outgoing    B bytes for each read, or more
  * Pass the length that the store has, not M * B worked out from the settings: another store is found out by it alone.
  *
- * Numbers that fbr_fresh, fbr_batch, fbr_look_number, fbr_totals, fbr_occupancy and fbr_load return, checked in this
- * order, 12 right after 7; fbr_totals and fbr_occupancy check 10 before 6. One of these calls that returns another
- * number than 0 has changed nothing, except that fbr_totals and fbr_occupancy write zeros with 6. fbr_number_text gives
- * each number's text.
+ * Numbers that fbr_fresh, fbr_batch, fbr_look_number, fbr_totals, fbr_occupancy, fbr_load and fbr_compare return,
+ * checked in this order, 12 right after 7; fbr_totals, fbr_occupancy and fbr_compare check 10 first. One of these calls
+ * that returns another number than 0 has changed nothing, except that these three write zeros with any number but 10.
+ * fbr_number_text gives each number's text.
  *    0  accepted
- *    1  N outside its limits                                                 fresh
- *    2  Nold is 0 or Nnew + Nold exceeds N                                   fresh
- *    3  Cmax or Amax outside                                                 fresh
- *    4  B or M outside                                                       fresh
+ *    1  N outside its limits                                                 fresh, compare
+ *    2  Nold is 0 or Nnew + Nold exceeds N                                   fresh, compare
+ *    3  Cmax or Amax outside                                                 fresh, compare
+ *    4  B or M outside                                                       fresh, compare
  *    5  directory too short                                                  fresh
  *    6  directory not sound                                                  batch, look, totals, occupancy
  *    7  data below N * B or store below M * B bytes                          batch, look
@@ -45,9 +46,12 @@
  *    9  a kind outside 1 to 7, a block of M or more, a flush or a tick       batch; look: a block of M or more
  *       with a value
  *   10  answers, incoming or outgoing shorter than the batch needs           batch; totals: out below 4 numbers;
- *                                                                            occupancy: out below 16 words
+ *                                                                            occupancy: out below 16 words;
+ *                                                                            compare: out below 5 numbers
  *   11  reads + writes + batch length above 2^56 - 1                         batch
  *   13  seed 0, M outside, words above 1,024 or above the room lent          load
+ *   14  a trace above 4,096 words, or a word other than a read of a          compare
+ *       block below M
  */
 #ifndef FBR_H
 #define FBR_H
@@ -56,8 +60,8 @@
 #include <stdint.h>
 
 /* The version, as a number for #if (major * 10000 + minor * 100 + patch) and as a text. */
-#define FBR_VERSION 800
-#define FBR_VERSION_TEXT "0.8.0"
+#define FBR_VERSION 900
+#define FBR_VERSION_TEXT "0.9.0"
 
 #ifdef __cplusplus
 extern "C" {
@@ -78,7 +82,8 @@ enum {
     FBR_BAD_WORD = 9,
     FBR_SHORT_BUFFER = 10,
     FBR_TOTALS_FULL = 11,
-    FBR_BAD_LOAD = 13
+    FBR_BAD_LOAD = 13,
+    FBR_BAD_TRACE = 14
 };
 
 /* What a returned number says, in one line without the number. */
@@ -98,6 +103,7 @@ static inline const char *fbr_number_text(uint32_t number) {
     case FBR_SHORT_BUFFER: return "a buffer is too short: answers, incoming, outgoing or out";
     case FBR_TOTALS_FULL: return "reads + writes + batch length exceeds 2^56 - 1";
     case FBR_BAD_LOAD: return "a load has seed 0, M outside 1 to 262,144, or over 1,024 words or more than lent";
+    case FBR_BAD_TRACE: return "a trace has over 4,096 words, or a word other than a read of a block below M";
     default: return "not a number of this library";
     }
 }
@@ -271,6 +277,25 @@ uint32_t fbr_load(uint32_t seed, uint32_t m, uint32_t count, uint32_t *words, si
  * 0, except where seed is 0 or count above 1,024.
  */
 uint32_t fbr_load_state(uint32_t seed, uint32_t count);
+
+/* The most words of a trace, and the places of a comparison's figures. */
+enum { FBR_TRACE_WORDS = 4096 };
+enum { FBR_INS_LRU, FBR_INS_CHOSEN, FBR_INS_OPT, FBR_GAIN, FBR_POSSIBLE_GAIN, FBR_COMPARISON };
+
+/*
+ * What the new rule gains on a trace of reads: the block ins of three caches with n blocks, each from empty and without
+ * pins, at the front of out; the rest of out stays. out[0] is under LRU (Nnew 0, Nold 1), out[1] under these settings,
+ * out[2] under OPT, which knows the reads to come: no cache of n blocks that starts empty, loads at every miss and at
+ * no other time, and replaces one block only when full, has fewer. out[3] is LRU - chosen, which may be negative, and
+ * out[4] LRU - OPT, which is not. Where that is 0 no improvement is given, and out[3] is 0 too. The paper's relative
+ * improvement is out[3] / out[4].
+ * The trace has at most 4,096 work words, each a read of a block below m. No cache is lent: the call runs one on its
+ * stack, which takes some 165 KB of it.
+ * Returns 0; or 10 where out_len is below 5, and leaves out as it was; or 1 to 4 for the settings, 14 for the trace,
+ * with five zeros in out.
+ */
+uint32_t fbr_compare(uint32_t n, uint32_t nnew, uint32_t nold, uint32_t cmax, uint32_t amax, uint32_t b, uint32_t m,
+                     const uint32_t *trace, size_t trace_len, int32_t *out, size_t out_len);
 
 /*
  * The 32-bit FNV-1a of a block number's four bytes, low byte first.

@@ -14,7 +14,8 @@
 //! # Ok::<(), fbr::Refusal>(())
 //! ```
 //!
-//! [`Load`] draws a test load that every site can repeat.
+//! [`Load`] draws a test load that every site can repeat. [`Comparison`] says what the new rule gains on a trace of
+//! reads.
 //!
 //! A call that declines changes nothing and says why by a [`Refusal`], which has a number. Nothing in this crate panics
 //! on what an archive returns: numbers and words that this version doesn't know are [`Refusal::Unknown`] and
@@ -22,6 +23,7 @@
 #![warn(missing_docs)]
 
 mod cache;
+mod compare;
 mod load;
 mod memory;
 mod occupancy;
@@ -34,6 +36,7 @@ mod totals;
 mod words;
 
 pub use cache::{Cache, NotTaken, Parts, Ran};
+pub use compare::{Comparison, Improvement};
 pub use load::Load;
 pub use memory::{Memory, View};
 pub use occupancy::{CountClass, Occupancy};

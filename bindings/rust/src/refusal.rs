@@ -3,7 +3,8 @@ use std::fmt;
 /// Why a call declined. A declined call has changed nothing.
 ///
 /// The cases are checked in this order, 12 right after 7. [`fresh`](crate::fresh) gives 1 to 5, a batch 6 to 12, a look
-/// 6, 7, 12 or 9, a look into a buffer 10 too, totals, occupancy and settings 6, a [`Load`](crate::Load) 13.
+/// 6, 7, 12 or 9, a look into a buffer 10 too, totals, occupancy and settings 6, a [`Load`](crate::Load) 13,
+/// a [`Comparison`](crate::Comparison) 1 to 4 and 14.
 /// [`Cache::new`](crate::Cache::new) gives 1 to 4, 7 and 12, and [`Cache::from_parts`](crate::Cache::from_parts) 6, 7
 /// and 12.
 #[derive(Clone, Copy, Debug, PartialEq, Eq, Hash)]
@@ -35,6 +36,8 @@ pub enum Refusal {
     TotalsFull,
     /// 13: a load's seed is 0, its M outside 1 to 262,144, or its words above 1,024 or above the room lent.
     BadLoad,
+    /// 14: a trace is over 4,096 words or has a word other than a read of a block below M.
+    BadTrace,
     /// A number that this crate doesn't know: the archive is of another version.
     Unknown(u32),
 }
@@ -55,6 +58,7 @@ impl Refusal {
         Refusal::ShortBuffer,
         Refusal::TotalsFull,
         Refusal::BadLoad,
+        Refusal::BadTrace,
     ];
 
     /// The number that the C interface returns.
@@ -73,6 +77,7 @@ impl Refusal {
             Refusal::ShortBuffer => 10,
             Refusal::TotalsFull => 11,
             Refusal::BadLoad => 13,
+            Refusal::BadTrace => 14,
             Refusal::Unknown(number) => number,
         }
     }
@@ -106,6 +111,7 @@ impl Refusal {
             Refusal::ShortBuffer => "a buffer is too short: answers, incoming, outgoing or out",
             Refusal::TotalsFull => "reads + writes + batch length exceeds 2^56 - 1",
             Refusal::BadLoad => "a load has seed 0, M outside 1 to 262,144, or over 1,024 words or more than lent",
+            Refusal::BadTrace => "a trace has over 4,096 words, or a word other than a read of a block below M",
             Refusal::Unknown(_) => "unknown to this crate, so the archive is of another version",
         }
     }

@@ -59,6 +59,15 @@ extern "C" {
     /// 1,024.
     pub fn fbr_load_state(seed: u32, count: u32) -> u32;
 
+    /// What the new rule gains on a trace of reads, to the front of `out`: block ins under LRU, under these settings
+    /// and under OPT, LRU − chosen, LRU − OPT; the rest of `out` stays. Returns 0; 10 where `out_len` is below 5, and
+    /// leaves `out` as it was; 1 to 4 for the settings or 14 where the trace is over 4,096 words or has a word other
+    /// than a read of a block below M, and writes five 0s.
+    pub fn fbr_compare(
+        n: u32, nnew: u32, nold: u32, cmax: u32, amax: u32, b: u32, m: u32, trace: *const u32, trace_len: usize,
+        out: *mut i32, out_len: usize,
+    ) -> u32;
+
     /// The 32-bit FNV-1a of a block number's four bytes, low byte first.
     pub fn fbr_hash(block: u32) -> u32;
 

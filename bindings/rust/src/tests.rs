@@ -2,6 +2,7 @@ use crate::refusal::outcome;
 use crate::{fresh, sound, Answer, Memory, Refusal, Settings, Totals, Work};
 
 mod cache;
+mod compare;
 mod load;
 mod occupancy;
 
@@ -319,7 +320,7 @@ fn looks_save_a_full_cache() {
 #[test]
 fn refusals_and_their_numbers() {
     let numbers: Vec<u32> = Refusal::ALL.iter().map(|refusal| refusal.number()).collect();
-    assert_eq!(numbers, [1, 2, 3, 4, 5, 6, 7, 12, 8, 9, 10, 11, 13], "the order of the checks");
+    assert_eq!(numbers, [1, 2, 3, 4, 5, 6, 7, 12, 8, 9, 10, 11, 13, 14], "the order of the checks");
     for refusal in Refusal::ALL.iter().copied() {
         assert_eq!(Refusal::from_number(refusal.number()), Some(refusal));
         assert!(refusal.to_string().starts_with(&format!("{}: ", refusal.number())));
