@@ -4,6 +4,7 @@
 //! [`reference`] is written in plain Rust from the scope alone and shares nothing with the library. The tests run
 //! both over the same inputs and compare every number, word and verdict.
 use fbr::sys;
+use reference::compare::{self, Figures};
 use reference::occupancy::{Table, FIGURES};
 
 pub mod reference;
@@ -119,6 +120,19 @@ pub fn load(seed: u32, m: u32, count: u32, words: &mut [u32]) -> u32 {
 /// The state after `count` words of a load; 0 where the seed is 0 or `count` above 1,024.
 pub fn load_state(seed: u32, count: u32) -> u32 {
     unsafe { sys::fbr_load_state(seed, count) }
+}
+
+/// The comparison of a trace at the front of `out`: ins under LRU, under the settings and under OPT, LRU − chosen,
+/// LRU − OPT; 0, or 1 to 4 or 14 and five 0s, or 10 where `out` is too short.
+pub fn compare(s: Settings, trace: &[u32], out: &mut [i32]) -> u32 {
+    let (t, o) = (trace.as_ptr(), out.as_mut_ptr());
+    unsafe { sys::fbr_compare(s.n, s.nnew, s.nold, s.cmax, s.amax, s.b, s.m, t, trace.len(), o, out.len()) }
+}
+
+/// The number and the figures of a comparison, over numbers that are no figures.
+pub fn compared(s: Settings, trace: &[u32]) -> (u32, Figures) {
+    let mut out = [i32::MIN; compare::FIGURES];
+    (compare(s, trace, &mut out), out)
 }
 
 /// FNV-1a of a block number's four bytes, low byte first.

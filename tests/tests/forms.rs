@@ -153,7 +153,7 @@ fn the_cache_never_sees_a_link() {
     ];
     let layout = source("layout/src/lib.rt");
     assert!(links.iter().all(|link| layout.contains(&format!("pub const {link}: u32"))));
-    for name in ["cache_steps", "flushing", "accesses", "cache", "looks", "occupancy"] {
+    for name in ["cache_steps", "flushing", "accesses", "cache", "looks", "occupancy", "compare"] {
         let listed = listed(name);
         assert!(under.iter().all(|part| !listed.iter().any(|crate_listed| crate_listed == part)), "{name}: {listed:?}");
         for path in files(&root().join("crates").join(name)) {
@@ -180,6 +180,8 @@ fn entry_points_have_no_requires() {
         ("occupancy/src/lib.rt", "pub fn occupancy("),
         ("load/src/lib.rt", "pub fn load("),
         ("load/src/lib.rt", "pub fn load_state("),
+        ("compare/src/lib.rt", "pub fn number("),
+        ("compare/src/lib.rt", "pub fn compare("),
         ("settings/src/lib.rt", "pub fn directory_words("),
     ] {
         let text = source(file);
@@ -199,8 +201,9 @@ fn quoted(text: &str) -> Vec<&str> {
     text.split('`').skip(1).step_by(2).collect()
 }
 
-/// Each public function of the C interface, the directory, the settings, FNV-1a, the numbers, a look, the occupancy and
-/// the load has two wrong programs of its own: docs/PROOFS.md names them, a group for each function, and they are there.
+/// Each public function of the C interface, the directory, the settings, FNV-1a, the numbers, a look, the occupancy,
+/// the load and the comparison has two wrong programs of its own: docs/PROOFS.md names them, a group for each function,
+/// and they are there.
 #[test]
 fn every_public_function_has_two_wrong_programs() {
     let proofs = fs::read_to_string(root().join("docs/PROOFS.md")).unwrap();
@@ -223,7 +226,10 @@ fn every_public_function_has_two_wrong_programs() {
         }
         told.extend(functions.iter().map(|name| name.rsplit("::").next().unwrap()));
     }
-    for name in ["fbr", "directory", "settings", "fnv", "batch_number", "numbers", "looks", "occupancy", "load"] {
+    for name in [
+        "fbr", "directory", "settings", "fnv", "batch_number", "numbers", "looks", "occupancy", "load", "opt_ins",
+        "compare",
+    ] {
         for line in source(&format!("{name}/src/lib.rt")).lines().map(str::trim) {
             let Some(rest) = line.strip_prefix("pub fn ").or(line.strip_prefix("pub extern \"C\" fn ")) else {
                 continue;

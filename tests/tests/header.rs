@@ -7,7 +7,8 @@ use std::sync::OnceLock;
 
 #[path = "../c/compile.rs"]
 mod compile;
-use cache_tests::reference::load::{states, word_of, BAD_LOAD};
+use cache_tests::reference::compare::BAD_TRACE;
+use cache_tests::reference::load::{states, word_of};
 use cache_tests::reference::stack::answer::KINDS;
 use compile::{compiled, text, LANGUAGES};
 
@@ -48,7 +49,7 @@ fn rust_type(c: &str) -> String {
             Some(constant) => format!("*const {}", rust_type(constant)),
             None => format!("*mut {}", rust_type(pointed)),
         },
-        None => ["uint8_t u8", "uint32_t u32", "uint64_t u64", "size_t usize"]
+        None => ["uint8_t u8", "uint32_t u32", "int32_t i32", "uint64_t u64", "size_t usize"]
             .iter()
             .find_map(|pair| pair.strip_prefix(c)?.strip_prefix(' '))
             .unwrap_or_else(|| panic!("the C type {c}"))
@@ -155,12 +156,12 @@ fn the_library_exports_the_same_functions() {
 
 #[test]
 fn texts_of_the_numbers() {
-    let asked: Vec<u32> = (0..=BAD_LOAD + 1).chain([99, u32::MAX]).collect();
+    let asked: Vec<u32> = (0..=BAD_TRACE + 1).chain([99, u32::MAX]).collect();
     let said = header_says(&asked.iter().map(|number| format!("text {number}")).collect::<Vec<_>>());
-    let none = BAD_LOAD as usize + 1;
+    let none = BAD_TRACE as usize + 1;
     assert_eq!((said[0].as_str(), said[none].as_str()), ("accepted", "not a number of this library"));
     assert!(said[none..].iter().all(|text| *text == said[none]));
-    for number in 1..=BAD_LOAD {
+    for number in 1..=BAD_TRACE {
         let refusal = fbr::Refusal::from_number(number).unwrap();
         assert_eq!(format!("{number}: {}", said[number as usize]), refusal.to_string());
     }
@@ -190,7 +191,7 @@ fn refusals() -> Vec<Named> {
 fn tables_in_the_order_of_the_checks() {
     let named = refusals();
     let order: Vec<u32> = named.iter().map(|one| one.0).collect();
-    assert_eq!(order, [1, 2, 3, 4, 5, 6, 7, 12, 8, 9, 10, 11, 13]);
+    assert_eq!(order, [1, 2, 3, 4, 5, 6, 7, 12, 8, 9, 10, 11, 13, 14]);
 
     let header = text("include/fbr.h");
     let table = header.split("    0  accepted\n").nth(1).expect("a table").split(" */").next().unwrap();

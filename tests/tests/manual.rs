@@ -6,6 +6,7 @@ use std::process::Command;
 
 #[path = "../c/compile.rs"]
 mod compile;
+use cache_tests::reference::compare as reference;
 use cache_tests::reference::directory::{kind, value, word};
 use cache_tests::reference::load::{states, word_of};
 use cache_tests::reference::settings::{named, Profile};
@@ -34,7 +35,7 @@ fn folder(name: &str) -> PathBuf {
 fn repository(inside: &Path) -> PathBuf {
     let repository = inside.join("repository");
     fs::create_dir_all(repository.join("target/staticlib")).unwrap();
-    for part in ["include", "docs"] {
+    for part in ["include", "docs", "samples"] {
         symlink(root().join(part), repository.join(part)).unwrap();
     }
     symlink(env!("FBR_ARCHIVE"), repository.join("target/staticlib/libfbr.a")).unwrap();
@@ -279,6 +280,61 @@ fn commissioning() {
 #[test]
 fn the_occupancy_of_a_day() {
     assert_eq!(example("occupancy"), shown("text occupancy"));
+}
+
+/// The example `compare`, by the manual's line but for where its folders stand: the table that the manual shows, and
+/// the picture beside it.
+fn compared(name: &str, line: &str) {
+    let folder = folder(&format!("compared_{name}"));
+    let repository = repository(&folder);
+    let (front, args) = line.trim_end().split_once(" -- ").expect("arguments");
+    assert_eq!(front, "cargo run --offline --release --manifest-path bindings/rust/Cargo.toml --example compare");
+    let mut cargo = cargo("run", &folder.with_file_name("bindings"));
+    cargo.args(["--release", "--example", "compare", "--"]).args(args.split(' ')).current_dir(&repository);
+    assert_eq!(printed(&mut cargo), shown(&format!("text {name}")));
+    let drawn = fs::read_to_string(repository.join(format!("target/{name}.svg"))).unwrap();
+    assert_eq!(drawn, text(&format!("docs/manual/{name}.svg")), "docs/manual/{name}.svg");
+    assert!(text("docs/MANUAL.md").contains(&format!("](manual/{name}.svg)")));
+}
+#[test]
+fn the_comparison_of_a_databases_pages() {
+    compared("pages", &shown("sh compare"));
+}
+#[test]
+fn the_comparison_of_the_days_reads() {
+    compared("day", &shown("sh day"));
+}
+
+/// The same trace as work words gives the same table; a line that is no read is told, and so is a word that is none.
+#[test]
+fn a_trace_as_words() {
+    let folder = folder("a_trace_as_words");
+    let run = |trace: &str| {
+        fs::write(folder.join("words.trace"), trace).unwrap();
+        let mut cargo = cargo("run", &folder.with_file_name("bindings"));
+        cargo.args(["--release", "--example", "compare", "--", "words.trace", "unix", "4", "64"]).current_dir(&folder);
+        cargo.output().unwrap()
+    };
+    let blocks = text("samples/day.trace");
+    let words = blocks.lines().map(|block| format!("{:#x}\n", word(work::READ, block.parse().unwrap())));
+    let told = String::from_utf8(run(&words.collect::<String>()).stdout).unwrap();
+    assert_eq!(told.split_once('\n').unwrap().1, shown("text day").split_once('\n').unwrap().1);
+    for (trace, wrong) in [("3\nbag\n", "line 2, \\\"bag\\\""), ("3\n0x20000003\n", "refused with 14: a trace")] {
+        let output = run(trace);
+        let said = String::from_utf8_lossy(&output.stderr).to_string();
+        assert!(!output.status.success() && said.contains(wrong), "{said}");
+    }
+}
+
+/// The lines about a comparison print what the manual says, and so does the reference.
+#[test]
+fn the_lines_of_a_comparison() {
+    after_the_sizes("the_lines_of_a_comparison", &shown("c compare"), &shown("text compare"));
+    let trace = [7, 7, 3, 9, 5, 7, 5, 8, 7, 4, 4, 5].map(|block| word(work::READ, block));
+    let s = cache_tests::Settings { n: 2, nnew: 0, nold: 2, cmax: 3, amax: 100, b: 512, m: 2_048 };
+    let (_, [lru, chosen, opt, gain, possible]) = reference::compare(s, &trace);
+    let improvement = 100 * gain / possible;
+    assert_eq!(format!("LRU {lru}, chosen {chosen}, OPT {opt}\nimprovement {improvement}.0%\n"), shown("text compare"));
 }
 
 #[test]

@@ -1,9 +1,10 @@
 //! The Rust wrapper in `bindings/rust` beside the reference: numbers, words, bytes, looks, totals, occupancy and settings,
 //! over lent memory and over a cache that owns its memory; and test loads.
 use cache_tests::reference::beside::{self, Tested, NUMBERS};
+use cache_tests::reference::compare::BAD_TRACE;
 use cache_tests::reference::directory::{kind, value, word};
 use cache_tests::reference::histories;
-use cache_tests::reference::load::{self, BAD_LOAD};
+use cache_tests::reference::load;
 use cache_tests::reference::occupancy::{of_stack, Table, NONE};
 use cache_tests::reference::rng::Rng;
 use cache_tests::reference::settings::{directory_length, named, Profile, MAX_CMAX, MAX_M, MAX_N, PROFILES};
@@ -372,7 +373,7 @@ fn loads_through_the_wrapper() {
 #[test]
 fn unknown_numbers_and_words() {
     assert_eq!(Refusal::from_number(0), None);
-    for number in 1..=BAD_LOAD {
+    for number in 1..=BAD_TRACE {
         let known = Refusal::from_number(number).unwrap();
         assert!(Refusal::ALL.contains(&known) && known.number() == number);
     }

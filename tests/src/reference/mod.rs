@@ -2,6 +2,7 @@
 pub mod beside;
 pub mod builder;
 pub mod c_judge;
+pub mod compare;
 pub mod crowding;
 pub mod directory;
 pub mod fast_cache;
