@@ -1,16 +1,16 @@
 -- From the promises of fresh and of a batch to belt cycle's outcome, by demand 3 over a list of one call.
-use Prim.Native.Nat.{ℕ, suc, _+_, _*_}
+use Prim.Native.Nat.{ℕ, _+_, _*_}
 use native.Mathlib.Omega.{arith}
-use mathlib.Core.Path.{_≡_, refl, sym, ap, ap₂, subst, _∙_}
+use mathlib.Core.Path.{_≡_, sym, ap, ap₂, subst, _∙_}
 use mathlib.Core.List.{List, [], _∷_, _++_, map, append-nil}
-use lib.ListN.{length, take, drop, replicate, length-replicate, length-map, take-append-drop, drop-of-length-le}
+use lib.ListN.{length, take, drop, replicate, length-replicate, take-append-drop, drop-of-length-le}
 use lib.Seq.{take-all, take-length, drop-length}
 use Rattle.settings.specs.declared.Settings.{Settings}
 use Rattle.settings.specs.Numbers.{settingsNumber}
 use Rattle.settings.specs.Buckets.{buckets}
-use Rattle.stack.specs.Stack.{Plain, Work, Step, answerWord, empty, plainStep}
-use Rattle.stack.specs.Batch.{Call, work, isWrite, run, plainRun, batch}
-use Rattle.stack.specs.BatchLaws.{batch-accepted}
+use Rattle.stack.specs.Stack.{Plain, answerWord, empty}
+use Rattle.stack.specs.Batch.{Call, work, batch}
+use Rattle.stack.specs.BatchLaws.{batch-answers}
 use Rattle.stack.specs.Examples.{belt}
 use Rattle.layout.specs.Layout.{freshNumber}
 use Rattle.layout.specs.Sound.{view, totalsIn}
@@ -72,21 +72,6 @@ module _ (s : Settings) (before d words incoming bytes store answers outgoing : 
   pub one-batch : Fresh s before 0 d → Batch words incoming lent n after → One answers outgoing past (starts s store) (asCall c) n after
   one-batch f b =
       from-follows (demand3 s before d bytes store (c ∷ []) ((n, after) ∷ []) f (call (omega arith) (omega arith) (subst (λ t. Batch words incoming t n after) (sym lends-all) b) end))
-
--- ---- as many answers as words
-
-module _ {K W : Type 0} (doing : K → W → List ℕ → Step K) (workOf : W → Work) (B : ℕ) where
-  length-answers : (k : K) (ws : List W) (incoming : List ℕ) → length (run doing workOf B k ws incoming .answers) ≡ length ws
-  unfolding run
-  length-answers k [] incoming = refl
-  length-answers k (w ∷ ws) incoming = ap suc (length-answers (doing k w (take B incoming) .after) ws (drop (isWrite (workOf w) * B) incoming))
-
-batch-answers : (k : Plain) (c : Call) → batch k c .number ≡ 0 → length (batch k c .ran .answers) ≡ length (c .words)
-unfolding batch plainRun
-batch-answers k c e =
-    ap (λ r. length (r .answers)) (batch-accepted k c e)
-    ∙ length-answers plainStep (λ w. w) (k .settings .b) k (map (work (k .settings)) (c .words)) (c .incoming)
-    ∙ length-map (c .words) (work (k .settings))
 
 -- ---- the belt's
 

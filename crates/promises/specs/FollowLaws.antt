@@ -4,7 +4,7 @@ use native.Mathlib.Omega.{arith}
 use mathlib.Core.Path.{_≡_, refl, sym, ap, ap₂, subst, subst₂, _∙_}
 use mathlib.Core.Bool.{not}
 use mathlib.Core.List.{List, [], _∷_, map}
-use lib.ListN.{length, drop, take-append-drop}
+use lib.ListN.{length, take, drop, take-append-drop}
 use lib.Seq.{length-take-le, take-take, take-append-le, take-at, drop-at}
 use lib.Dec.{T}
 use Rattle.basics.specs.Basics.{All}
@@ -138,6 +138,19 @@ follow k rest alike (call {m = m} {c = c} {n = n} {after = after} fits fits′ p
     (subst (λ x. Agrees c n after x (batch x (asCall c)) × Alike (leaves m c after) (batch x (asCall c) .ran .after) (drop (x .settings .m * x .settings .b) (m .store))) (alike .same)
     (goes m c fits fits′ (alike .is-sound) n after promise)) in
     call alike (now .0) (follow (batch k (asCall c) .ran .after) rest (now .1) next)
+
+-- the plain stack's store is the memory's front of M blocks
+pub alike-store : {m : Memory} {k : Plain} {rest : List ℕ} → Alike m k rest → take (k .settings .m * k .settings .b) (m .store) ≡ k .store
+unfolding view
+alike-store {m} alike =
+    ap (λ (t : Settings). take (t .m * t .b) (m .store)) (sym (ap (λ x. x .settings) (alike .same))) ∙ ap (λ x. x .store) (alike .same)
+
+-- it has M blocks, where a call lends so many
+pub alike-room : {m : Memory} {k : Plain} {rest : List ℕ} → Alike m k rest → (lent : ℕ) → lent ≤ length (m .store)
+    → lent ≡ k .settings .m * k .settings .b → k .settings .m * k .settings .b ≤ length (k .store)
+alike-room {m} {k} alike lent fits e =
+    let n : ℕ = k .settings .m * k .settings .b in
+    subst (λ l. n ≤ length l) (alike-store alike) (omega (arith, length-take-le n (m .store) (omega (arith, e))))
 
 -- alike at the end
 pub follows-alike : {rest : List ℕ} {m : Memory} {k : Plain} {cs : List Lending} {ts : List (ℕ × Slices)} → Follows rest m k cs ts

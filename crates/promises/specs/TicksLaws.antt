@@ -1,10 +1,8 @@
 -- Writing out on the tick over every list of calls: the words that it carried out are one story of the plain stack.
 use Prim.Native.Nat.{ℕ, zero, suc, _*_, _≤_, _<_}
-use native.Mathlib.Omega.{arith}
 use mathlib.Core.Path.{_≡_, sym, ap, subst, _∙_}
 use mathlib.Core.List.{List, [], map}
 use lib.ListN.{length, take}
-use lib.Seq.{length-take-le}
 use lib.Dec.{eqb, eqb·suc-zero}
 use Rattle.basics.specs.Basics.{if_then_else_, blockAt}
 use Rattle.settings.specs.declared.Settings.{Settings}
@@ -16,24 +14,15 @@ use Rattle.stack.specs.BatchLaws.{allowed, batch-accepted, batch-declined, work
 use Rattle.stack.specs.SureLaws.{Sure, empty-sure}
 use Rattle.stack.specs.Ticks.{Turn, turns}
 use Rattle.stack.specs.TicksLaws.{Story, join, last-sure, run-story, second-tick, loss-bound}
-use Rattle.layout.specs.Sound.{settingsIn, view}
 use Rattle.promises.specs.Promises.{Fresh, Slices}
 use Rattle.promises.specs.Demand3.{Memory, Lending, Linked, end, call, asCall, starts, Alike, Agrees, Follows, memoryLeft, stackLeft}
 use Rattle.promises.specs.Demand3Laws.{fresh-legal, demand3}
-use Rattle.promises.specs.FollowLaws.{follows-alike}
+use Rattle.promises.specs.FollowLaws.{alike-store, alike-room, follows-alike}
 use Rattle.promises.specs.Ticks.{turnsOf, AllSecondTick, AllLossBound}
 
 -- ---- one call
 
 module _ {m : Memory} {k : Plain} {rest : List ℕ} (alike : Alike m k rest) (c : Lending) (fits : c .storeLength ≤ length (m .store)) where
-  abbrev Roomy : Plain → Type 0
-  Roomy x = c .storeLength ≡ x .settings .m * x .settings .b → x .settings .m * x .settings .b ≤ length (x .store)
-
-  room : Roomy k
-  unfolding view
-  room = subst Roomy (alike .same)
-      (λ e. let s = settingsIn (m .directory) in omega (arith, length-take-le (s .m * s .b) (m .store) (omega (arith, e))))
-
   abbrev these : List Turn
   these = turns (k .settings .b) k (map (work (k .settings)) (c .words)) (c .incoming)
 
@@ -44,7 +33,8 @@ module _ {m : Memory} {k : Plain} {rest : List ℕ} (alike : Alike m k rest) (c 
       let s = k .settings in
       let a = allowed s (k .totals) (asCall c) e in
       rw (batch-accepted k (asCall c) e)
-      (run-story s k (map (work s) (c .words)) (c .incoming) sure (room (a .memory .store-exact)) (works-inside s (c .words)) (a .incoming))
+      (run-story s k (map (work s) (c .words)) (c .incoming) sure (alike-room alike (c .storeLength) fits (a .memory .store-exact))
+      (works-inside s (c .words)) (a .incoming))
 
   call-story : {s : Settings} → Sure s k → (n : ℕ) (after : Slices) → Agrees c n after k (batch k (asCall c))
       → Story s k (if eqb n 0 then these else []) (batch k (asCall c) .ran .after)
@@ -77,11 +67,9 @@ module _ (s : Settings) (before directory bytes store : List ℕ) (cs : List Len
 
   -- the store left begins with the plain stack's
   same-store : take (s .m * s .b) (left .store) ≡ last .store
-  unfolding view
   same-store =
-      let same = follows-alike (demand3 s before directory bytes store cs ts fresh linked) .same in
-      let e : settingsIn (left .directory) ≡ s = ap (λ k. k .settings) same ∙ last-sure s begins story .settings in
-      ap (λ (t : Settings). take (t .m * t .b) (left .store)) (sym e) ∙ ap (λ k. k .store) same
+      ap (λ (t : Settings). take (t .m * t .b) (left .store)) (sym (last-sure s begins story .settings))
+      ∙ alike-store (follows-alike (demand3 s before directory bytes store cs ts fresh linked))
 
   same-block : (b : ℕ) → b < s .m → blockAt (s .b) b (left .store) ≡ blockAt (s .b) b (last .store)
   same-block b inside = sym (block-front (s .b) b (s .m * s .b) (left .store) (block-ends (s .b) b (s .m) inside)) ∙ ap (blockAt (s .b) b) same-store

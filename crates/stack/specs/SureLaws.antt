@@ -25,7 +25,7 @@ use Rattle.stack.specs.StepLaws.{step-kept}
 use Rattle.stack.specs.ForgetLaws.{InStore}
 use Rattle.stack.specs.RunLaws.{Brings, step-settings}
 use Rattle.stack.specs.SavedLaws.{Sized, saved-length, savedAll-length}
-use Rattle.stack.specs.FateLaws.{Holder, itself, Fate, FateOf, away, entered, left, stayed, out, step-fate}
+use Rattle.stack.specs.FateLaws.{Holder, itself, Fate, FateOf, away, entered, left, stayed, out, filled-unmodified, step-fate}
 
 -- ---- sizes
 
@@ -118,11 +118,11 @@ abbrev pub Faithful : List ℕ → Option Holder → Type 0
 Faithful stored none = Unit {0}
 Faithful stored (some x) = T (not (x .marks .modified)) → x .held ≡ stored
 
-fate-faithful : {w : Work} {before after : List ℕ} {o o′ : Option Holder} → Fate w before after o o′ → Faithful before o → Faithful after o′
+fate-faithful : {b : ℕ} {w : Work} {before after : List ℕ} {o o′ : Option Holder} → Fate b w before after o o′ → Faithful before o → Faithful after o′
 fate-faithful (away e) clean = tt
-fate-faithful (entered y e z own) clean = own
+fate-faithful (entered y e z filled) clean = filled-unmodified filled
 fate-faithful (left x e) clean = tt
-fate-faithful (stayed x y e same rises) clean = λ t. same t .1 ∙ clean (same t .0) ∙ sym e
+fate-faithful (stayed x y e same filled rises) clean = λ t. filled-unmodified filled t ∙ clean (same t) ∙ sym e
 fate-faithful (out x word m e) clean = λ t. sym e
 
 -- ---- sure

@@ -37,6 +37,11 @@ ticks run = howMany isTick (map (λ t. t .word) run)
 
 -- ---- a block over them
 
+-- the bytes of a resident, if there is one, or else those stored
+unfoldable pub bytesIf : List ℕ → Option (Resident (List ℕ)) → List ℕ
+bytesIf stored none = stored
+bytesIf stored (some x) = x .held
+
 module _ (b : ℕ) where
   abbrev pub Resides : Plain → Type 0
   Resides k = (x : Resident (List ℕ)) × (lookup b (k .residents) ≡ some x)
@@ -61,12 +66,8 @@ module _ (b : ℕ) where
   UnsavedAtFirst (t ∷ run) = Unsaved (t .before)
 
   -- the bytes that the block has: its resident's, or the store's
-  unfoldable pub bytesIf : Plain → Option (Resident (List ℕ)) → List ℕ
-  bytesIf k none = blockAt (k .settings .b) b (k .store)
-  bytesIf k (some x) = x .held
-
   abbrev pub presentIn : Plain → List ℕ
-  presentIn k = bytesIf k (lookup b (k .residents))
+  presentIn k = bytesIf (blockAt (k .settings .b) b (k .store)) (lookup b (k .residents))
 
 -- ---- the statements, of the words of a list one after another
 

@@ -67,28 +67,30 @@ seen-small : (o : Option Holder) → seenIn o ≤ 1
 seen-small none = omega arith
 seen-small (some x) = bit-small (x .marks .seen)
 
-module _ {w : Work} {before after : List ℕ} where
+module _ {b : ℕ} {w : Work} {before after : List ℕ} where
   -- A block unsaved before is unsaved after, and has seen one more tick if the word was one; or the word wrote it out.
-  unsaved-or-out : {x y : Holder} → Fate w before after (some x) (some y) → T (x .marks .modified)
+  unsaved-or-out : {x y : Holder} → Fate b w before after (some x) (some y) → T (x .marks .modified)
       → (T (y .marks .modified) × (bit (x .marks .seen) + isTick w ≤ bit (y .marks .seen)))
       ⊎ (Swept w × (y ≡ remarked cleared x) × (after ≡ x .held))
-  unsaved-or-out (stayed x y e same rises) m =
-      split (y .marks .modified) (λ t. inl (t, rises t)) (λ t. absurd (T-not (x .marks .modified) m (same t .0)))
+  unsaved-or-out (stayed x y e same filled rises) m =
+      split (y .marks .modified) (λ t. inl (t, rises t)) (λ t. absurd (T-not (x .marks .modified) m (same t)))
   unsaved-or-out (out x swept m e) t = inr (swept, refl, e)
 
-  seen-rises : {o : Option Holder} {y : Holder} → Fate w before after o (some y) → T (y .marks .modified) → seenIn o + isTick w ≤ bit (y .marks .seen)
-  seen-rises (entered y e z own) t = omega (arith, z)
-  seen-rises (stayed x y e same rises) t = rises t
+  seen-rises : {o : Option Holder} {y : Holder} → Fate b w before after o (some y)
+      → T (y .marks .modified) → seenIn o + isTick w ≤ bit (y .marks .seen)
+  seen-rises (entered y e z filled) t = omega (arith, z)
+  seen-rises (stayed x y e same filled rises) t = rises t
   seen-rises (out x swept m e) t = absurd t
 
   -- its bytes in the store stay, or are then those that it had before
-  kept-or-saved : (b : ℕ) (k : Plain) {o o′ : Option Holder} → Fate w before after o o′ → (after ≡ before) ⊎ (after ≡ bytesIf b k o)
+  kept-or-saved : {o o′ : Option Holder} (stored : List ℕ) → Fate b w before after o o′ → (after ≡ before) ⊎ (after ≡ bytesIf stored o)
   unfolding bytesIf
-  kept-or-saved b k (away e) = inl e
-  kept-or-saved b k (entered y e z own) = inl e
-  kept-or-saved b k (left x e) = e
-  kept-or-saved b k (stayed x y e same rises) = inl e
-  kept-or-saved b k (out x swept m e) = inr e
+  kept-or-saved stored (away e) = inl e
+  kept-or-saved stored (entered y e z filled) = inl e
+  kept-or-saved stored (left x (inl e)) = inl (e .0)
+  kept-or-saved stored (left x (inr e)) = inr e
+  kept-or-saved stored (stayed x y e same filled rises) = inl e
+  kept-or-saved stored (out x swept m e) = inr e
 
 -- ---- the second tick
 
@@ -130,7 +132,7 @@ unfolding bytesIf
 saved-or-not s b k sure = go (lookup b (k .residents)) refl (sure .clean b)
   where
     go : (o : Option Holder) → lookup b (k .residents) ≡ o → Faithful (blockAt (s .b) b (k .store)) o
-        → Unsaved b k ⊎ (blockAt (s .b) b (k .store) ≡ bytesIf b k o)
+        → Unsaved b k ⊎ (blockAt (s .b) b (k .store) ≡ bytesIf (blockAt (k .settings .b) b (k .store)) o)
     go none e clean = inr (rw (sure .settings))
     go (some x) e clean = split (x .marks .modified) (λ t. inl (x, e, t)) (λ t. inr (sym (clean t)))
 
@@ -147,7 +149,7 @@ module _ (s : Settings) (b : ℕ) (store : List ℕ) where
       → (blockAt (s .b) b store ≡ blockAt (s .b) b (k .store)) ⊎ ((blockAt (s .b) b store ≡ presentIn b k) ⊎ Any (λ t. Has (t .after)) all)
   stood end e = inl e
   stood (word {k = k} now later) e = elim (stood later e) [
-    | inl same ↦ elim (kept-or-saved b k (now .fate b)) [ inl g ↦ inl (same ∙ g) | inr g ↦ inr (inl (same ∙ g)) ]
+    | inl same ↦ elim (kept-or-saved (blockAt (k .settings .b) b (k .store)) (now .fate b)) [ inl g ↦ inl (same ∙ g) | inr g ↦ inr (inl (same ∙ g)) ]
     | inr (inl g) ↦ inr (inr (inl (has (now .sure) g)))
     | inr (inr any) ↦ inr (inr (inr any))
   ]
