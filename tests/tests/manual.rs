@@ -164,6 +164,31 @@ fn pins_in_c() {
     after_the_sizes("pins_in_c_absent", &lines, "block 3 is not in the cache\n");
 }
 
+/// The written block goes to the store, the sections are others, and the next read gives what was written. With an Nold
+/// of 0 nothing but the flush is done.
+#[test]
+fn tuning_in_c() {
+    let lines = shown("c tune");
+    let write = "
+uint32_t work = fbr_word(FBR_WRITE, 3), answer;
+uint8_t bytes[512] = {0};
+bytes[511] = 9;
+number = fbr_batch(dir, words, data, 64 * 512, store, 2048 * 512, &work, 1, bytes, 512, &answer, 1, fbr_no_bytes(), 0);
+";
+    let read = "
+work = fbr_word(FBR_READ, 3);
+bytes[511] = 0;
+number = fbr_batch(dir, words, data, 64 * 512, store, 2048 * 512, &work, 1, fbr_no_bytes(), 0, &answer, 1, bytes, 512);
+printf(\"%u: kind %u, %u; \", (unsigned)number, (unsigned)FBR_KIND(answer), (unsigned)bytes[511]);
+printf(\"Nold %u\\n\", (unsigned)s[FBR_NOLD]);
+";
+    let expected = "1 written out, Nold is 26 now\n0: kind 2, 9; Nold 26\n";
+    after_the_sizes("tuning_in_c", &[write, &lines, read].concat(), expected);
+    let none = lines.replace("nold = 26;", "nold = 0;").replace("stderr", "stdout");
+    let expected = "refused 2: Nold is 0, or Nnew + Nold exceeds N\n0: kind 1, 9; Nold 38\n";
+    after_the_sizes("tuning_in_c_declined", &[write, &none, read].concat(), expected);
+}
+
 #[test]
 fn a_load_in_c() {
     after_the_sizes("a_load_in_c", &shown("c load"), &shown("text load"));
@@ -272,6 +297,10 @@ fn a_flights_boarding() {
 #[test]
 fn a_large_purge() {
     assert_eq!(example("purge"), shown("text purge"));
+}
+#[test]
+fn settings_changed_while_belts_move() {
+    assert_eq!(example("tune"), shown("text tune"));
 }
 #[test]
 fn commissioning() {
