@@ -10,6 +10,7 @@ pub mod fast_judge;
 pub mod fnv;
 pub mod histories;
 pub mod judge;
+pub mod last_bytes;
 pub mod load;
 pub mod lru_cache;
 pub mod marks;

@@ -167,6 +167,8 @@ const PINS: [(u64, u64); 9] = [(0, 0), (0, 0), (1, 1), (1, 1), (0, 3), (1, 4), (
 pub struct Pinning(u64, u64);
 
 impl Pinning {
+    pub const NONE: Pinning = Pinning(0, 0);
+
     pub fn drawn(rng: &mut Rng) -> Pinning {
         let (pins, unpins) = rng.pick(&PINS);
         Pinning(pins, unpins)
