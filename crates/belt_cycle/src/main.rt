@@ -1,4 +1,5 @@
 // Belt cycle: work words from standard input; a line for each answer and the totals, or the number of a refusal.
+#![tactic(auto)]
 ghost use Rattle.std.specs.Prelude.{◌≤◌};
 
 // Two numbers, one space apart.

@@ -1,3 +1,4 @@
+#![tactic(auto)]
 ghost use Rattle.std.specs.Prelude.{◌≡◌, ◌^◌, ◌≤◌, ◌<◌};
 ghost use Rattle.words.specs.Words.{val};
 ghost use Rattle.layout.specs.Addresses.{COUNT, SECTION};

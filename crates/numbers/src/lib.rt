@@ -1,3 +1,4 @@
+#![tactic(auto)]
 ghost use Rattle.std.specs.Prelude.{◌≡◌};
 ghost use Rattle.promises.specs.Promises.{number_of};
 ghost use Rattle.promises.specs.Looks.{look_number};

@@ -1,1 +1,2 @@
 // What each operation keeps: specs/.
+#![tactic(auto)]
