@@ -53,7 +53,7 @@ module _ (s : Settings) where
       let n : ℕ = how_many is_write ws in
       let now = stepped s k sure room w (take s.b incoming) inside.0 (brings_first s.b w n incoming fits) in
       word now
-      (run_story _ ws (drop (is_write w * s.b) incoming) now.sure (rw now.long room) inside.1 (rest_room s.b (is_write w) n incoming fits))
+      (run_story (plain_step k w (take s.b incoming)).after ws (drop (is_write w * s.b) incoming) now.sure (rw now.long room) inside.1 (rest_room s.b (is_write w) n incoming fits))
 
 -- ---- a word, seen from one block
 
