@@ -194,6 +194,8 @@ wordless_same (suc n) promise none = promise.declined (omega arith)
 
 idle_same : (m : Memory) (cs : List Lending) (ts : List (ℕ × Slices)) → Linked m cs ts → Idle cs ts → memory_left m cs ts ≡ m
 idle_same m [] [] end end = refl
+idle_same m [] (t ∷ ts) linked idle = elim linked [ ]
+idle_same m (c ∷ cs) [] linked idle = elim linked [ ]
 idle_same m (c ∷ cs) ((n, after) ∷ ts) (call fits fits' promise next) (refused nonzero idle) =
     idle_same (leaves m c after) cs ts next idle ∙ ap (leaves m c) (promise.declined nonzero) ∙ leaves_same m c
 idle_same m (c ∷ cs) ((n, after) ∷ ts) (call fits fits' promise next) (wordless none idle) =

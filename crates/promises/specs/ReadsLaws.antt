@@ -19,7 +19,7 @@ use Rattle.stack.specs.SureLaws.{empty_sure}
 use Rattle.stack.specs.LastBytes.{gives_up, sevens, Last, first_bytes, last_then, last_reads, ends_in_flush}
 use Rattle.stack.specs.LastLaws.{Knows, runs}
 use Rattle.promises.specs.Promises.{over, Slices}
-use Rattle.promises.specs.Demand3.{Memory, Lending, Linked, end, call, as_call, starts, Alike, Agrees, Follows, memory_left, stack_left}
+use Rattle.promises.specs.Demand3.{Memory, Lending, Linked, end, call, as_call, leaves, starts, Alike, Agrees, Follows, memory_left, stack_left}
 use Rattle.promises.specs.Demand3Laws.{fresh_legal, demand3}
 use Rattle.promises.specs.FollowLaws.{alike_store, alike_room, follows_alike}
 use Rattle.promises.specs.Reads.{works_of, of_this_kind, all_of_this_kind, FromFresh, words_and_bytes, asks, reads_of, store_of}
@@ -83,16 +83,34 @@ module _ {m : Memory} {k : Plain} {rest : List ℕ} (alike : Alike m k rest) (c 
 
 -- ---- the list
 
-list_last : {s : Settings} {rest : List ℕ} {m : Memory} {k : Plain} {cs : List Lending} {ts : List (ℕ × Slices)} (last : Last) (flushed : Bool)
+-- what both say of the first call
+record Called (rest : List ℕ) (m : Memory) (k : Plain) (c : Lending) (cs : List Lending) (n : ℕ) (after : Slices) (ts : List (ℕ × Slices)) : Type 0 where
+  fits : c.store_length ≤ length m.store
+  next : Linked (leaves m c after) cs ts
+  alike : Alike m k rest
+  agrees : Agrees c n after k (batch k (as_call c))
+  later : Follows rest (leaves m c after) (batch k (as_call c)).ran.after cs ts
+
+called : {rest : List ℕ} {m : Memory} {k : Plain} {c : Lending} {cs : List Lending} {n : ℕ} {after : Slices} {ts : List (ℕ × Slices)}
+    → Linked m (c ∷ cs) ((n, after) ∷ ts) → Follows rest m k (c ∷ cs) ((n, after) ∷ ts) → Called rest m k c cs n after ts
+called (call fits fits' promise next) (call alike agrees later) =
+    record { fits = fits'; next = next; alike = alike; agrees = agrees; later = later }
+
+list_last : (s : Settings) (rest : List ℕ) (cs : List Lending) (ts : List (ℕ × Slices)) (m : Memory) (k : Plain) (last : Last) (flushed : Bool)
     → Linked m cs ts → Follows rest m k cs ts → T (all_of_this_kind s cs ts) → Knows s last flushed k
     → (reads_of s cs ts ≡ last_reads_of s.b last (map (asks s) cs))
     × Knows s (last_of s.b last (map (asks s) cs)) (closes flushed (map (asks s) cs)) (stack_left k cs)
 unfolding all_of_this_kind reads_of last_reads_of last_of closes
-list_last last flushed end (end alike) kinds knows = (refl, knows)
-list_last {s} last flushed (call {c = c} {n = n} {after = after} fits fits' promise next) (call alike agrees later) kinds knows =
-    let (kind, others) = and_yes (of_this_kind s c n after) _ kinds in
-    let now = goes alike c fits' n after agrees last flushed (kind_says s c n after kind) knows in
-    let (reads, then) = list_last _ _ next later others now.knows in
+list_last s rest [] ts m k last flushed linked follows kinds knows = (refl, knows)
+list_last s rest (c ∷ cs) [] m k last flushed linked follows kinds knows = elim linked [ ]
+list_last s rest (c ∷ cs) ((n, after) ∷ ts) m k last flushed linked follows kinds knows =
+    let w = called linked follows in
+    let (kind, others) = and_yes (of_this_kind s c n after) (all_of_this_kind s cs ts) kinds in
+    let now = goes w.alike c w.fits n after w.agrees last flushed (kind_says s c n after kind) knows in
+    let (reads, then) =
+        list_last s rest cs ts (leaves m c after) (batch k (as_call c)).ran.after (last_then s.b last (works_of s c) c.incoming)
+        (ends_in_flush flushed (works_of s c)) w.next w.later others now.knows
+    in
     (ap₂ (λ x y. x ∷ y) now.reads reads, then)
 
 -- from whatever last bytes the first store has
@@ -112,7 +130,7 @@ module _ (s : Settings) (m : Memory) (cs : List Lending) (ts : List (ℕ × Slic
 
   ends : (reads_of s cs ts ≡ last_reads_of s.b first (map (asks s) cs))
       × Knows s (last_of s.b first (map (asks s) cs)) (closes false (map (asks s) cs)) (stack_left (starts s m.store) cs)
-  ends = list_last first false h.linked follows h.of_this_kind_lem begins
+  ends = list_last s (drop (s.m * s.b) m.store) cs ts m (starts s m.store) first false h.linked follows h.of_this_kind_lem begins
 
   store_left : store_of s (memory_left m cs ts) ≡ (stack_left (starts s m.store) cs).store
   store_left =
