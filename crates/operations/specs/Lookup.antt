@@ -1,6 +1,6 @@
 -- The resident of a block, by the synonyms of its bucket. Assumes nothing.
 use Rattle.std.specs.Prelude.{ℕ, zero, suc, ◌+◌, ◌*◌, ◌≤◌, ◌≡◌, Bool, true, false, ◌⊎◌, List, [], ◌∷◌, ◌++◌, eqb, length}
-use Rattle.std.proofs.Math.Path.{refl, ap}
+use Rattle.std.proofs.Math.Path.{refl, ap, subst⁻¹}
 use Rattle.std.proofs.Common.{◌∙◌, sym, true≢false, inl, inr, ⊎_elim, arith, length-append, eq-eqb, ne_eqb}
 use Rattle.std.proofs.Math.Option.{Option, none, some}
 use Rattle.std.proofs.Math.Decide.{ℕ_discrete}
@@ -57,6 +57,10 @@ searched_view s w D b (suc n) x (z ∷ zs) v r o a =
     go true false e c = rw e
     go false false e c = refl
 
+-- what a walk over these entries finds: none, or the holder of the block
+abbrev Seeks : Fields → ℕ → ℕ → List ℕ → Type 0
+Seeks D b v l = ((v ≡ 0) × All (λ y. ¬ (D BLOCK y ≡ b)) l) ⊎ ((D BLOCK v ≡ b) × (Off v l → ⊥))
+
 -- what the walk finds
 sought_run : (D : Fields) (b n x : ℕ) (zs : List ℕ) → Run (D NEXT-SYNONYM) x zs 0 → Off 0 zs → length zs ≤ n
     → ((soughtD D b n x ≡ 0) × All (λ z. ¬ (D BLOCK z ≡ b)) zs) ⊎ ((D BLOCK (soughtD D b n x) ≡ b) × (Off (soughtD D b n x) zs → ⊥))
@@ -65,16 +69,19 @@ sought_run D b zero x [] r o l = inl (refl, tt)
 sought_run D b zero x (z ∷ zs) r o l = absurd (omega arith)
 sought_run D b (suc n) x [] r o l = inl (rw (eq-eqb x 0 r), tt)
 sought_run D b (suc n) x (z ∷ zs) r o l =
-    rw (r.0, ne_eqb z 0 (λ c. o.0 (sym c))) (go (ℕ_discrete (D BLOCK z) b) (sought_run D b n (D NEXT-SYNONYM z) zs r.1 o.1 (omega arith)))
+    subst⁻¹ (λ (v : ℕ). Seeks D b v (z ∷ zs)) here
+    (go (ℕ_discrete (D BLOCK z) b) (sought_run D b n (D NEXT-SYNONYM z) zs r.1 o.1 (omega arith)))
   where
-    go : Dec (D BLOCK z ≡ b) → ((soughtD D b n (D NEXT-SYNONYM z) ≡ 0) × All (λ z. ¬ (D BLOCK z ≡ b)) zs) ⊎
-        ((D BLOCK (soughtD D b n (D NEXT-SYNONYM z)) ≡ b) × (Off (soughtD D b n (D NEXT-SYNONYM z)) zs → ⊥))
-        → ((pick (eqb (D BLOCK z) b) z (soughtD D b n (D NEXT-SYNONYM z)) ≡ 0) × All (λ z. ¬ (D BLOCK z ≡ b)) (z ∷ zs)) ⊎
-        ((D BLOCK (pick (eqb (D BLOCK z) b) z (soughtD D b n (D NEXT-SYNONYM z))) ≡ b)
-        × (Off (pick (eqb (D BLOCK z) b) z (soughtD D b n (D NEXT-SYNONYM z))) (z ∷ zs) → ⊥))
-    go (yes q) k = rw (eq-eqb (D BLOCK z) b q) (inr (q, λ p. p.0 refl))
-    go (no q) (inl k) = rw (ne_eqb (D BLOCK z) b q) (inl (k.0, (q, k.1)))
-    go (no q) (inr k) = rw (ne_eqb (D BLOCK z) b q) (inr (k.0, λ p. k.1 p.1))
+    here : soughtD D b (suc n) x ≡ pick (eqb (D BLOCK z) b) z (soughtD D b n (D NEXT-SYNONYM z))
+    here = rw (r.0, ne_eqb z 0 (λ c. o.0 (sym c)))
+    go : Dec (D BLOCK z ≡ b) → Seeks D b (soughtD D b n (D NEXT-SYNONYM z)) zs
+        → Seeks D b (pick (eqb (D BLOCK z) b) z (soughtD D b n (D NEXT-SYNONYM z))) (z ∷ zs)
+    go (yes q) k = subst⁻¹ (λ (t : Bool). Seeks D b (pick t z (soughtD D b n (D NEXT-SYNONYM z))) (z ∷ zs))
+        (eq-eqb (D BLOCK z) b q) (inr (q, λ p. p.0 refl))
+    go (no q) (inl k) = subst⁻¹ (λ (t : Bool). Seeks D b (pick t z (soughtD D b n (D NEXT-SYNONYM z))) (z ∷ zs))
+        (ne_eqb (D BLOCK z) b q) (inl (k.0, (q, k.1)))
+    go (no q) (inr k) = subst⁻¹ (λ (t : Bool). Seeks D b (pick t z (soughtD D b n (D NEXT-SYNONYM z))) (z ∷ zs))
+        (ne_eqb (D BLOCK z) b q) (inr (k.0, λ p. k.1 p.1))
 
 -- ---- in a sound directory
 
