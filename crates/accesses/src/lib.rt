@@ -13,7 +13,7 @@ use promises::Replacement;
 use settings::Settings;
 
 // Where the block is after a read or a write, its answer word, and whether it was resident before.
-#[derive(Drop)]
+#[derive(Clone, Copy)]
 pub struct Asked {
     pub entry: u32,
     pub answer: u32,
@@ -21,7 +21,7 @@ pub struct Asked {
 }
 
 // What asking for a block comes to.
-#[derive(Drop)]
+#[derive(Clone, Copy)]
 pub enum Place {
     At(Asked),
     AllPinned,

@@ -21,7 +21,7 @@ const TICK: u32 = 5;
 const UNPIN: u32 = 7;
 
 // How many words of a batch are reads, writes and invalid.
-#[derive(Drop)]
+#[derive(Clone, Copy)]
 struct Tally {
     reads: u32,
     writes: u32,

@@ -21,7 +21,7 @@ const BELT: Settings = Settings {
 const MOST_BYTES: usize = 4100;
 
 // What the belt's batch gives beside its answers.
-#[derive(Drop)]
+#[derive(Clone, Copy)]
 pub struct Outcome {
     pub number: u32, // 0 where the batch is accepted
     pub words: usize, // work words; an accepted batch has as many answers

@@ -23,7 +23,7 @@ const ACCEPTED: u32 = 0;
 const NO_TRACE: u32 = 14;
 
 // The number and the five figures: block ins, and what is gained of them. All figures are 0 where the number isn't.
-#[derive(Drop)]
+#[derive(Clone, Copy)]
 pub struct Compared {
     pub number: u32,
     pub lru: u32,

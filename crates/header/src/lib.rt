@@ -5,7 +5,7 @@ ghost use Rattle.layout.specs.Sound.{settings_in, total_at, totals_in};
 use settings::Settings;
 
 // The totals since fresh.
-#[derive(Drop)]
+#[derive(Clone, Copy)]
 pub struct Totals {
     pub reads: u64, // read words carried out, hits included
     pub writes: u64, // write words

@@ -16,7 +16,7 @@ const UNSOUND: u32 = 6;
 pub const CLASSES: usize = 8;
 
 // The number, and for each class its residents and how many of these are modified.
-#[derive(Drop)]
+#[derive(Clone, Copy)]
 pub struct Table {
     pub number: u32,
     pub residents: [u32; CLASSES],
