@@ -4,6 +4,7 @@ use Rattle.std.specs.Prelude.{ℕ, suc, ◌≤◌, ◌<◌, ◌≡◌, refl, ◌
 use Rattle.std.proofs.Common.{arith, sym, inl, inr, leb→le}
 use Rattle.std.proofs.lemmas.Bool.{false≢true}
 use Rattle.std.proofs.Math.Dec.{nleb→lt}
+use Rattle.std.proofs.Math.Path.{subst⁻¹}
 use Rattle.basics.specs.Basics.{if◌then◌else◌, member, index_of}
 use Rattle.opt.specs.Opt.{next, further, victim}
 use Rattle.opt.specs.RemoveLaws.{either, same, eqb_self, swap, below, above}
@@ -68,6 +69,10 @@ further_first t a b =
 
 -- ---- of all
 
+member_more : (v a : ℕ) (l : List ℕ) → member v l ≡ true → member v (a ∷ l) ≡ true
+unfolding member
+member_more v a l m = rw m (either (eqb a v) (λ w. rw w) (λ w. rw w))
+
 pub victim_in : (t : List ℕ) (a : ℕ) (C : List ℕ) → member (victim t (a ∷ C)) (a ∷ C) ≡ true
 unfolding victim member
 victim_in t a [] = rw (eqb_self a)
@@ -75,7 +80,7 @@ victim_in t a (b ∷ C) = go (victim t (b ∷ C)) (victim_in t b C) (further_fir
   where
     go : (v : ℕ) → member v (b ∷ C) ≡ true → (further t a v ≡ a) ⊎ (further t a v ≡ v) → member (further t a v) (a ∷ (b ∷ C)) ≡ true
     go v m (inl e) = rw (e, eqb_self a)
-    go v m (inr e) = rw (e, m) (either (eqb a v) (λ w. rw w) (λ w. rw w))
+    go v m (inr e) = subst⁻¹ (λ (w : ℕ). member w (a ∷ (b ∷ C)) ≡ true) e (member_more v a (b ∷ C) m)
 
 pub victim_first : (t : List ℕ) (a : ℕ) (C : List ℕ) (x : ℕ) → member x (a ∷ C) ≡ true → Rather t (victim t (a ∷ C)) x
 unfolding victim member
