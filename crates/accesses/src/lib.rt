@@ -1,5 +1,6 @@
 // One read, write, purge or pin: the directory first, then the bytes. Only the directory's contracts are relied on.
 #![tactic(auto)]
+
 ghost use Rattle.std.specs.Prelude.{◌≡◌, ℕ, ◌+◌, ◌-◌, ◌*◌, ◌≤◌, List, T, length};
 ghost use Rattle.basics.specs.Basics.{pick, block_at, put_block};
 ghost use Rattle.layout.specs.Sound.{settings_in, sound};

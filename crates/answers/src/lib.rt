@@ -1,5 +1,6 @@
 // Answer words: the kind in the top 4 bits, the value in the low 28.
 #![tactic(auto)]
+
 ghost use Rattle.std.specs.Prelude.{◌≡◌, ◌^◌, ◌≤◌, ◌<◌};
 ghost use Rattle.stack.specs.Stack.{hit, entered, replaced, purged, absent, flushed, miss_refused, pinned, purge_refused, answer_word};
 

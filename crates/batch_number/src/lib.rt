@@ -1,4 +1,5 @@
 #![tactic(auto)]
+
 ghost use Rattle.std.specs.Prelude.{◌≡◌, ◌+◌, ◌^◌, ◌≤◌, ◌<◌, ltb, length};
 ghost use Rattle.settings.specs.Numbers.{settings_number};
 ghost use Rattle.basics.specs.Basics.{first, pick};

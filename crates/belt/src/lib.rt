@@ -1,4 +1,5 @@
 #![tactic(auto)]
+
 ghost use Rattle.std.specs.Prelude.{◌≡◌, ◌+◌, ◌*◌, ◌/◌, ◌%◌, ◌≤◌, ◌<◌, min, length, get_or};
 ghost use Rattle.layout.specs.Sound.{totals_in};
 ghost use Rattle.promises.specs.Promises.{over};

@@ -1,5 +1,6 @@
 // Belt cycle: work words from standard input; a line for each answer and the totals, or the number of a refusal.
 #![tactic(auto)]
+
 ghost use Rattle.std.specs.Prelude.{◌≤◌, length, IfOk};
 
 use std::io;
@@ -12,7 +13,11 @@ fn print_pair(rt: &impl Print, first: u64, second: u64) -> io::Result<()> {
 
 // An answer word: kind and value.
 fn print_answer(rt: &impl Print, word: u32) -> io::Result<()> {
-    print_pair(rt, (word / words::VALUES) as u64, (word % words::VALUES) as u64)
+    print_pair(
+        rt,
+        (word / words::VALUES) as u64,
+        (word % words::VALUES) as u64,
+    )
 }
 
 fn print_answers(rt: &impl Print, answers: &[u32; 1025], n: usize) -> io::Result<()>

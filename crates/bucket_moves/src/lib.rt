@@ -1,4 +1,5 @@
 #![tactic(auto)]
+
 ghost use Rattle.std.specs.Prelude.{◌≡◌};
 ghost use Rattle.word_ops.specs.Buckets.{bucket_joined, bucket_left_after, bucket_left};
 

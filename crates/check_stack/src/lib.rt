@@ -1,4 +1,5 @@
 #![tactic(auto)]
+
 ghost use Rattle.std.specs.Prelude.{◌≡◌, ◌+◌, ◌*◌, ◌≤◌, ◌<◌, length};
 ghost use Rattle.layout.specs.ModifiedWord.{is_modified_word};
 ghost use Rattle.check_model.specs.Nines.{has_kind, links_ok, nine_test, nines_ok};

@@ -1,6 +1,7 @@
 // What the new rule gains on a trace of reads: block ins under LRU, under the chosen settings and under OPT. The two caches are run by
 // what reads and writes go by in a batch, one after the other, in a directory on the stack: none is lent.
 #![tactic(auto)]
+
 ghost use Rattle.std.specs.Prelude.{◌≡◌, ◌≤◌, pos, ◌-ℤ◌};
 ghost use Rattle.basics.specs.Lists.{all};
 ghost use Rattle.settings.specs.Numbers.{settings_number};

@@ -1,6 +1,7 @@
 // Flush and tick: residents are written out, one block out each, and their modified and seen marks are cleared. A flush writes out every
 // modified resident, a tick those that have already seen one; every other modified one has then seen it. Order, counts and pins stay.
 #![tactic(auto)]
+
 ghost use Rattle.std.specs.Prelude.{◌≡◌, List, [], ℕ, ◌+◌, ◌≤◌};
 ghost use Rattle.stack.specs.Stack.{flushed};
 ghost use Rattle.layout.specs.Sound.{settings_in};

@@ -1,4 +1,5 @@
 #![tactic(auto)]
+
 ghost use Rattle.std.specs.Prelude.{◌≡◌, ◌^◌, ◌≤◌, ◌<◌};
 ghost use Rattle.words.specs.Words.{set_link};
 ghost use Rattle.layout.specs.Addresses.{chain_head, chain_tail};

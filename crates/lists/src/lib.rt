@@ -1,4 +1,5 @@
 #![tactic(auto)]
+
 ghost use Rattle.std.specs.Prelude.{◌≡◌, ◌≤◌};
 ghost use Rattle.layout.specs.Addresses.{chain_head, chain_tail};
 ghost use Rattle.word_ops.specs.Lists.{word_of, slot_of, unlinked, pushed, moved_to_front};

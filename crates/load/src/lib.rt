@@ -1,5 +1,6 @@
 // A test load that anybody can repeat: work words drawn from the states of Marsaglia's 32-bit xorshift.
 #![tactic(auto)]
+
 ghost use Rattle.std.specs.Prelude.{◌≡◌, length, T};
 ghost use Rattle.settings.specs.Numbers.{legal_store};
 ghost use Rattle.load.specs.Xorshift.{step};

@@ -1,4 +1,5 @@
 #![tactic(auto)]
+
 ghost use Rattle.std.specs.Prelude.{◌≡◌, ◌+◌, ◌*◌, ◌≤◌, length};
 ghost use Rattle.basics.specs.Basics.{block_at};
 ghost use Rattle.promises.specs.Looks.{place_at, look_bytes, look_place};

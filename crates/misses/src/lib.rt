@@ -1,4 +1,5 @@
 #![tactic(auto)]
+
 ghost use Rattle.std.specs.Prelude.{◌≡◌, ◌^◌, ◌≤◌, ◌<◌};
 ghost use Rattle.word_ops.specs.Enter.{boundary_pushed, boundary_pushed_if, stack_entered};
 ghost use Rattle.word_ops.specs.Enter.{filled, entered_as, entered, replaced_from, replaced};

@@ -1,4 +1,5 @@
 #![tactic(auto)]
+
 ghost use Rattle.std.specs.Prelude.{◌≡◌};
 ghost use Rattle.promises.specs.Promises.{number_of};
 ghost use Rattle.promises.specs.Looks.{look_number};

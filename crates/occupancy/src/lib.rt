@@ -1,5 +1,6 @@
 // Occupancy by count class: how many residents each class has, and how many of these are modified. Nothing is written.
 #![tactic(auto)]
+
 ghost use Rattle.std.specs.Prelude.{◌≡◌, List, [], ◌∷◌, ◌++◌, ℕ, T};
 ghost use Rattle.stack.specs.Recency.{Resident};
 ghost use Rattle.stack.specs.Occupancy.{class_of, table};

@@ -74,6 +74,7 @@ sought_run D b (suc n) x (z ∷ zs) r o l =
   where
     here : soughtD D b (suc n) x ≡ pick (eqb (D BLOCK z) b) z (soughtD D b n (D NEXT-SYNONYM z))
     here = rw (r.0, ne_eqb z 0 (λ c. o.0 (sym c)))
+
     go : Dec (D BLOCK z ≡ b) → Seeks D b (soughtD D b n (D NEXT-SYNONYM z)) zs
         → Seeks D b (pick (eqb (D BLOCK z) b) z (soughtD D b n (D NEXT-SYNONYM z))) (z ∷ zs)
     go (yes q) k = subst⁻¹ (λ (t : Bool). Seeks D b (pick t z (soughtD D b n (D NEXT-SYNONYM z))) (z ∷ zs))

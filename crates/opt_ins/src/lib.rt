@@ -2,6 +2,7 @@
 // the trace says whether the read there is awaited, the next one of a resident. A resident that is never read again has no such word, and is
 // replaced before any that has.
 #![tactic(auto)]
+
 ghost use Rattle.std.specs.Prelude.{◌≡◌, ◌+◌, ◌≤◌, length, drop, replicate};
 ghost use Rattle.basics.specs.Basics.{index_of};
 ghost use Rattle.opt.specs.Opt.{opt_ins};

@@ -108,8 +108,8 @@ list_last s rest (c ∷ cs) ((n, after) ∷ ts) m k last flushed linked follows 
     let (kind, others) = and_yes (of_this_kind s c n after) (all_of_this_kind s cs ts) kinds in
     let now = goes w.alike c w.fits n after w.agrees last flushed (kind_says s c n after kind) knows in
     let (reads, then) =
-        list_last s rest cs ts (leaves m c after) (batch k (as_call c)).ran.after (last_then s.b last (works_of s c) c.incoming)
-        (ends_in_flush flushed (works_of s c)) w.next w.later others now.knows
+    list_last s rest cs ts (leaves m c after) (batch k (as_call c)).ran.after (last_then s.b last (works_of s c) c.incoming)
+    (ends_in_flush flushed (works_of s c)) w.next w.later others now.knows
     in
     (ap₂ (λ x y. x ∷ y) now.reads reads, then)
 

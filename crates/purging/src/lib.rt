@@ -1,4 +1,5 @@
 #![tactic(auto)]
+
 ghost use Rattle.std.specs.Prelude.{◌≡◌, ◌≤◌, ◌<◌};
 ghost use Rattle.word_ops.specs.Purge.{boundary_falls, boundary_down_from, boundary_down, boundaries_down, unused_first, stack_left};
 ghost use Rattle.word_ops.specs.Purge.{chain_links_cleared, unchained, blanked, purged_from, purged};

@@ -1,4 +1,5 @@
 #![tactic(auto)]
+
 ghost use Rattle.std.specs.Prelude.{◌≡◌, ◌≤◌};
 ghost use Rattle.words.specs.Words.{val};
 ghost use Rattle.word_ops.specs.Buckets.{synonym_before, searched, found};

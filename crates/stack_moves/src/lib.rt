@@ -1,4 +1,5 @@
 #![tactic(auto)]
+
 ghost use Rattle.std.specs.Prelude.{◌≡◌, ◌<◌};
 ghost use Rattle.word_ops.specs.Hit.{boundary_to, boundary_past, boundary_up, new_boundary_up, old_boundary_up, boundaries_up, to_front};
 

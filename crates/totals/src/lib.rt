@@ -1,4 +1,5 @@
 #![tactic(auto)]
+
 ghost use Rattle.std.specs.Prelude.{◌≡◌};
 ghost use Rattle.word_ops.specs.Totals.{total_raised, access_counted, in_counted, out_counted};
 

@@ -1,4 +1,5 @@
 #![tactic(auto)]
+
 ghost use Rattle.std.specs.Prelude.{◌≡◌, ◌-◌, ◌^◌, ◌<◌};
 ghost use Rattle.word_ops.specs.Hit.{or_else, raised_count};
 ghost use Rattle.word_ops.specs.Halve.{half};

@@ -5,10 +5,10 @@ use Rattle.accesses.proofs.access.Goals as goal
 
 pub miss-requires : goal.miss-requires
 miss-requires c = record {
-      access = c.requires;
-      absent =
-          c.lookup.ensures ∙ ap (found_resident _) c.in_default.is;
-    }
+  access = c.requires;
+  absent =
+      c.lookup.ensures ∙ ap (found_resident _) c.in_default.is;
+}
 
 pub hit-r-requires : goal.hit-r-requires
 hit-r-requires c = hit_ready _ _ _ _ c.requires

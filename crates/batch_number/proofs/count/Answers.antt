@@ -17,7 +17,7 @@ pub bounds-work-i : goal.bounds-work-i
 bounds-work-i c = omega arith
 
 pub and_word-t-requires : goal.and_word-t-requires
-and_word-t-requires c =     let a = c.args in
+and_word-t-requires c = let a = c.args in
     let f = tally_few a.s (take c.loop-i.i a.work.now) (simp length-take (omega arith)) in
     rw c.loop-i.invariant.1 (f.few_reads, f.few_writes, f.few_invalid)
 
@@ -28,10 +28,10 @@ pub loop-i-smaller : goal.loop-i-smaller
 loop-i-smaller c = omega arith
 
 pub loop-i-preserved : goal.loop-i-preserved
-loop-i-preserved c =     let a = c.args in
+loop-i-preserved c = let a = c.args in
     let m = tally_more a.s a.work.now c.loop-i.i c.loop-i-test.true in
     (omega arith, rw (add-one c.loop-i.i, ← m, ← c.loop-i.invariant.1) c.and_word-t.ensures)
 
 pub returns : goal.returns
-returns c =     let a = c.args in
+returns c = let a = c.args in
     rw (← take_all c.loop-i.i a.work.now c.loop-i-test.false) c.loop-i.invariant.1

@@ -17,31 +17,31 @@ returns-then-i-lt24 c = rw (le-ltb _ _ c.if-i-lt9.false, le-ltb _ _ c.if-i-lt14.
 pub returns-then-i-base : goal.returns-then-i-base
 unfolding kind_at
 returns-then-i-base c = rw (
-      le-ltb _ _ c.if-i-lt9.false,
-      le-ltb _ _ c.if-i-lt14.false,
-      le-ltb _ _ c.if-i-lt24.false,
-      lt-ltb _ _
-          c.if-i-base.true,
-    )
+  le-ltb _ _ c.if-i-lt9.false,
+  le-ltb _ _ c.if-i-lt14.false,
+  le-ltb _ _ c.if-i-lt24.false,
+  lt-ltb _ _
+      c.if-i-base.true,
+)
 
 pub returns-then-i-base-lt4 : goal.returns-then-i-base-lt4
 unfolding kind_at
 returns-then-i-base-lt4 c = rw (
-      le-ltb _ _ c.if-i-lt9.false,
-      le-ltb _ _ c.if-i-lt14.false,
-      le-ltb _ _
-          c.if-i-lt24.false,
-      le-ltb _ _ c.if-i-base.false,
-      lt-ltb _ _ c.if-i-base-lt4.true,
-    )
+  le-ltb _ _ c.if-i-lt9.false,
+  le-ltb _ _ c.if-i-lt14.false,
+  le-ltb _ _
+      c.if-i-lt24.false,
+  le-ltb _ _ c.if-i-base.false,
+  lt-ltb _ _ c.if-i-base-lt4.true,
+)
 
 pub returns : goal.returns
 unfolding kind_at
 returns c = rw (
-      le-ltb _ _ c.if-i-lt9.false,
-      le-ltb _ _ c.if-i-lt14.false,
-      le-ltb _ _
-          c.if-i-lt24.false,
-      le-ltb _ _ c.if-i-base.false,
-      le-ltb _ _ c.if-i-base-lt4.false,
-    )
+  le-ltb _ _ c.if-i-lt9.false,
+  le-ltb _ _ c.if-i-lt14.false,
+  le-ltb _ _
+      c.if-i-lt24.false,
+  le-ltb _ _ c.if-i-base.false,
+  le-ltb _ _ c.if-i-base-lt4.false,
+)

@@ -18,10 +18,10 @@ returns-then-not-nine_ok c = let l = c.loop-left in sym (turns_fail _ _ _ l.left
 
 pub loop-left-preserved : goal.loop-left-preserved
 loop-left-preserved c = let l = c.loop-left in (
-      sym (turns_go _ _ _ l.left l.i c.loop-left-test.true
-          (sym c.nine_ok.ensures ∙ not-false _ (ap not c.if-not-nine_ok.false))) ∙ l.invariant.0,
-      omega (arith, l.invariant.1, c.loop-left-test.true),
-    )
+  sym (turns_go _ _ _ l.left l.i c.loop-left-test.true
+      (sym c.nine_ok.ensures ∙ not-false _ (ap not c.if-not-nine_ok.false))) ∙ l.invariant.0,
+  omega (arith, l.invariant.1, c.loop-left-test.true),
+)
 
 pub returns : goal.returns
 returns c = let l = c.loop-left in sym (turns_end _ _ _ l.left l.i true (omega arith) refl) ∙ l.invariant.0

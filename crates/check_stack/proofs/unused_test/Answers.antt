@@ -13,16 +13,16 @@ returns-then-e-n c = rw (ne_eqb _ _ c.if-e-eq0.false, lt-ltb _ _ c.if-e-n.true)
 pub returns : goal.returns
 unfolding unused_test
 returns c = rw (
-      ← c.field.ensures,
-      ← c.field-2.ensures,
-      ← c.field-3.ensures,
-      ← c.field-4.ensures,
-      ← c.field-5.ensures,
-      ← c.field-6.ensures,
-      ← c.field-7.ensures,
-      ← c.field-8.ensures,
-      ne_eqb _ _
-          c.if-e-eq0.false,
-      le-ltb _ _
-          c.if-e-n.false,
-    )
+  ← c.field.ensures,
+  ← c.field-2.ensures,
+  ← c.field-3.ensures,
+  ← c.field-4.ensures,
+  ← c.field-5.ensures,
+  ← c.field-6.ensures,
+  ← c.field-7.ensures,
+  ← c.field-8.ensures,
+  ne_eqb _ _
+      c.if-e-eq0.false,
+  le-ltb _ _
+      c.if-e-n.false,
+)

@@ -9,4 +9,4 @@ overflow_add-sum c = search rules
 
 pub returns : goal.returns
 unfolding count_set
-returns c =                     rw (c.set_number-2.ensures, c.set_number.ensures, c.minus.ensures, c.word_of.ensures, c.get-sum.ensures)
+returns c = rw (c.set_number-2.ensures, c.set_number.ensures, c.minus.ensures, c.word_of.ensures, c.get-sum.ensures)

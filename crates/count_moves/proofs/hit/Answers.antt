@@ -10,7 +10,7 @@ raised_count-next-requires c = search rules
 
 pub returns : goal.returns
 unfolding hit hit_from
-returns c =                             let section-is = c.get-section.ensures ∙ ap (val _) c.word_of.ensures in
+returns c = let section-is = c.get-section.ensures ∙ ap (val _) c.word_of.ensures in
     let count-is = c.get-count.ensures ∙ ap (val _) c.word_of-2.ensures in
     let next-is = c.raised_count-next.ensures.0 ∙ ap₂ raised_count section-is count-is in (
       next-is,

@@ -23,6 +23,6 @@ settle-halved-requires c = let asks = c.requires in
 pub returns : goal.returns
 returns c = let asks = c.requires in
     let fr = framed _ _ _ asks.0.is_sound asks.1 c.frame_of-f.ensures in
-            hit_returns _ _ _ _ _ _ _ _ _ asks.0 fr c.hit_entry-count.ensures.value c.hit_entry-count.ensures.dir_after
+    hit_returns _ _ _ _ _ _ _ _ _ asks.0 fr c.hit_entry-count.ensures.value c.hit_entry-count.ensures.dir_after
     (ap (λ (t : Settings). t.amax) asks.1)
     c.settle-halved.ensures.0 c.settle-halved.ensures.1

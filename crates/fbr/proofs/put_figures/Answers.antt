@@ -12,10 +12,10 @@ loop-i-init c = (refl, omega arith, refl)
 
 pub loop-i-preserved : goal.loop-i-preserved
 loop-i-preserved c = (
-      rw c.loop-i.invariant.0 (front_next c.args.figures.now c.args.out.now c.loop-i.i c.loop-i-test.true c.requires),
-      omega (arith, c.loop-i-test.true),
-      simp length-set c.loop-i.invariant.2,
-    )
+  rw c.loop-i.invariant.0 (front_next c.args.figures.now c.args.out.now c.loop-i.i c.loop-i-test.true c.requires),
+  omega (arith, c.loop-i-test.true),
+  simp length-set c.loop-i.invariant.2,
+)
 
 pub returns : goal.returns
 returns c = let figures = c.args.figures.now in

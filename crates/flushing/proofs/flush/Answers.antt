@@ -20,17 +20,17 @@ overflow_add-written c = omega (arith, c.flush_entry-written.ensures.1, c.loop-p
 
 pub loop-p-preserved : goal.loop-p-preserved
 loop-p-preserved c = (
-      c.flush_entry-written.ensures.0 _ _ _ c.requires.0 c.loop-p.invariant.0 (standing _ _ c.requires.0 _ _ _ c.loop-p.invariant.0 _ c.residents-count.ensures c.loop-p-test.true _ c.loop-p.invariant.1),
-      behind_is _ _ c.requires.0 _ _ _ c.loop-p.invariant.0 _ c.residents-count.ensures c.loop-p-test.true _ c.loop-p.invariant.1 _
-          c.next-behind.ensures,
-      omega (arith, c.loop-p-test.true),
-      omega (arith, c.flush_entry-written.ensures.1, c.loop-p.invariant.3),
-      c.flush_entry-written.auto.dir ∙ c.loop-p.invariant.4,
-      c.flush_entry-written.auto.store ∙ c.loop-p.invariant.5,
-    )
+  c.flush_entry-written.ensures.0 _ _ _ c.requires.0 c.loop-p.invariant.0 (standing _ _ c.requires.0 _ _ _ c.loop-p.invariant.0 _ c.residents-count.ensures c.loop-p-test.true _ c.loop-p.invariant.1),
+  behind_is _ _ c.requires.0 _ _ _ c.loop-p.invariant.0 _ c.residents-count.ensures c.loop-p-test.true _ c.loop-p.invariant.1 _
+      c.next-behind.ensures,
+  omega (arith, c.loop-p-test.true),
+  omega (arith, c.flush_entry-written.ensures.1, c.loop-p.invariant.3),
+  c.flush_entry-written.auto.dir ∙ c.loop-p.invariant.4,
+  c.flush_entry-written.auto.store ∙ c.loop-p.invariant.5,
+)
 
 pub returns : goal.returns
 returns c = (
-      flush_carried _ _ c.requires.0 c.loop-p.invariant.0 (omega (arith, c.residents-count.ensures, c.loop-p-test.false)),
-      omega (arith, c.residents-count.ensures, c.loop-p.invariant.2, c.loop-p.invariant.3, residents_few _ c.requires.0),
-    )
+  flush_carried _ _ c.requires.0 c.loop-p.invariant.0 (omega (arith, c.residents-count.ensures, c.loop-p-test.false)),
+  omega (arith, c.residents-count.ensures, c.loop-p.invariant.2, c.loop-p.invariant.3, residents_few _ c.requires.0),
+)

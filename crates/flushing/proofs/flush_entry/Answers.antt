@@ -14,25 +14,25 @@ clean-requires c = out_ready _ _ _ c.requires c.args.tick _ c.marks_of-marks.ens
 
 pub returns-then-goes_out : goal.returns-then-goes_out
 returns-then-goes_out c = (
-      λ start p n ready so_far standing.
-          writes c.args.tick _ _ start p n ready so_far standing _ c.marks_of-marks.ensures _ _ _ _ c.requires.size_is
-          (sym c.goes_out.ensures ∙ c.if-goes_out.true) c.block_of-block.ensures c.move_block.ensures c.clean.ensures,
-      omega arith,
-    )
+  λ start p n ready so_far standing.
+      writes c.args.tick _ _ start p n ready so_far standing _ c.marks_of-marks.ensures _ _ _ _ c.requires.size_is
+      (sym c.goes_out.ensures ∙ c.if-goes_out.true) c.block_of-block.ensures c.move_block.ensures c.clean.ensures,
+  omega arith,
+)
 
 pub see_tick-requires : goal.see_tick-requires
 see_tick-requires c = clean_ready _ _ _ c.requires _ c.marks_of-marks.ensures c.if-marks.true
 
 pub returns-then-marks : goal.returns-then-marks
 returns-then-marks c = (
-      λ start p n ready so_far standing.
-          sees c.args.tick _ _ start p n ready so_far standing _ c.marks_of-marks.ensures c.if-marks.true
-          (sym c.goes_out.ensures ∙ c.if-goes_out.false) _ c.see_tick.ensures,
-      omega arith,
-    )
+  λ start p n ready so_far standing.
+      sees c.args.tick _ _ start p n ready so_far standing _ c.marks_of-marks.ensures c.if-marks.true
+      (sym c.goes_out.ensures ∙ c.if-goes_out.false) _ c.see_tick.ensures,
+  omega arith,
+)
 
 pub returns-else-marks : goal.returns-else-marks
 returns-else-marks c = (
-      λ start p n ready so_far standing. stays c.args.tick _ _ start p n ready so_far standing _ c.marks_of-marks.ensures c.if-marks.false,
-      omega arith,
-    )
+  λ start p n ready so_far standing. stays c.args.tick _ _ start p n ready so_far standing _ c.marks_of-marks.ensures c.if-marks.false,
+  omega arith,
+)

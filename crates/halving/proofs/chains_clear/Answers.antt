@@ -12,10 +12,10 @@ loop-i-init c = (refl, refl, omega arith)
 
 pub loop-i-preserved : goal.loop-i-preserved
 loop-i-preserved c = let l = c.loop-i in (
-      rw (c.chain_clear.ensures, l.invariant.0) (cleared_next _ l.i),
-      c.chain_clear.auto.dir ∙ l.invariant.1,
-      omega (arith, c.loop-i-test.true),
-    )
+  rw (c.chain_clear.ensures, l.invariant.0) (cleared_next _ l.i),
+  c.chain_clear.auto.dir ∙ l.invariant.1,
+  omega (arith, c.loop-i-test.true),
+)
 
 pub returns : goal.returns
 returns c = let l = c.loop-i in

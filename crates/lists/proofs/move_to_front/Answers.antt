@@ -3,4 +3,4 @@ use Rattle.lists.proofs.move_to_front.Goals as goal
 
 pub returns : goal.returns
 unfolding moved_to_front
-returns c =         rw (c.push_front.ensures, c.unlink.ensures)
+returns c = rw (c.push_front.ensures, c.unlink.ensures)

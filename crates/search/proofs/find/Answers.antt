@@ -3,4 +3,4 @@ use Rattle.search.proofs.find.Goals as goal
 
 pub returns : goal.returns
 unfolding found
-returns c =         rw (c.find_from.ensures, c.get-first.ensures)
+returns c = rw (c.find_from.ensures, c.get-first.ensures)

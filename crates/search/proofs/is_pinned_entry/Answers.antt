@@ -6,4 +6,4 @@ use Rattle.search.proofs.is_pinned_entry.Goals as goal
 
 pub returns : goal.returns
 unfolding is_pinned_entry
-returns c =     c.is_pinned.ensures ∙ ap is_pinned (c.get.ensures ∙ ap (val _) c.word_of.ensures)
+returns c = c.is_pinned.ensures ∙ ap is_pinned (c.get.ensures ∙ ap (val _) c.word_of.ensures)

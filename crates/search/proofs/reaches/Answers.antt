@@ -8,4 +8,4 @@ returns-then-e-eq0 c = rw (eq-eqb _ _ c.if-e-eq0.true)
 
 pub returns : goal.returns
 unfolding reaches
-returns c =         rw (ne_eqb _ _ c.if-e-eq0.false, c.get.ensures, c.word_of.ensures)
+returns c = rw (ne_eqb _ _ c.if-e-eq0.false, c.get.ensures, c.word_of.ensures)

@@ -6,12 +6,12 @@ use Rattle.search.proofs.Laws.{picked_none, picked_here, picked_next}
 use Rattle.search.proofs.victim.Goals as goal
 
 pub returns-then-e-ne0 : goal.returns-then-e-ne0
-returns-then-e-ne0 c =     let l = c.loop-left in
+returns-then-e-ne0 c = let l = c.loop-left in
     let e : c.chain_last-e.result ≡ chain_last _ _ _ l.i = c.chain_last-e.ensures in
     sym (picked_here _ _ _ l.left l.i _ c.loop-left-test.true e c.if-e-ne0.true) ∙ l.invariant.0
 
 pub loop-left-preserved : goal.loop-left-preserved
-loop-left-preserved c =     let l = c.loop-left in
+loop-left-preserved c = let l = c.loop-left in
     let e : c.chain_last-e.result ≡ chain_last _ _ _ l.i = c.chain_last-e.ensures in
     let step = picked_next _ _ _ l.left l.i _ c.loop-left-test.true e c.if-e-ne0.false in
     (sym step ∙ l.invariant.0, omega arith, omega (arith, l.invariant.2), l.invariant.3)

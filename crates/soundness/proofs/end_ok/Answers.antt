@@ -15,38 +15,38 @@ returns-then-before-value c = rw (← c.value.ensures, eq-eqb _ _ c.if-e-ne0.fal
 pub returns-then-not-ends_ok : goal.returns-then-not-ends_ok
 unfolding walk_end
 returns-then-not-ends_ok c = rw (
-      ← c.value.ensures,
-      ← c.ends_ok.ensures,
-      eq-eqb _ _ c.if-e-ne0.false,
-      eq-eqb
-          _ _ c.if-before-value.false,
-      not-true c.ends_ok.result (ap not c.if-not-ends_ok.true),
-    )
+  ← c.value.ensures,
+  ← c.ends_ok.ensures,
+  eq-eqb _ _ c.if-e-ne0.false,
+  eq-eqb
+      _ _ c.if-before-value.false,
+  not-true c.ends_ok.result (ap not c.if-not-ends_ok.true),
+)
 
 pub returns-then-not-numbers_ok : goal.returns-then-not-numbers_ok
 unfolding walk_end
 returns-then-not-numbers_ok c = rw (
-      ← c.value.ensures,
-      ← c.ends_ok.ensures,
-      ← c.numbers_ok.ensures,
-      eq-eqb _ _ c.if-e-ne0.false,
-      eq-eqb _ _ c.if-before-value.false,
-      not-false
-          c.ends_ok.result (ap not c.if-not-ends_ok.false),
-      not-true c.numbers_ok.result (ap not c.if-not-numbers_ok.true),
-    )
+  ← c.value.ensures,
+  ← c.ends_ok.ensures,
+  ← c.numbers_ok.ensures,
+  eq-eqb _ _ c.if-e-ne0.false,
+  eq-eqb _ _ c.if-before-value.false,
+  not-false
+      c.ends_ok.result (ap not c.if-not-ends_ok.false),
+  not-true c.numbers_ok.result (ap not c.if-not-numbers_ok.true),
+)
 
 pub returns : goal.returns
 unfolding walk_end
 returns c = rw (
-      ← c.value.ensures,
-      ← c.ends_ok.ensures,
-      ← c.numbers_ok.ensures,
-      ← c.totals_ok.ensures,
-      eq-eqb _ _
-          c.if-e-ne0.false,
-      eq-eqb _ _ c.if-before-value.false,
-      not-false c.ends_ok.result (ap not c.if-not-ends_ok.false),
-      not-false
-          c.numbers_ok.result (ap not c.if-not-numbers_ok.false),
-    )
+  ← c.value.ensures,
+  ← c.ends_ok.ensures,
+  ← c.numbers_ok.ensures,
+  ← c.totals_ok.ensures,
+  eq-eqb _ _
+      c.if-e-ne0.false,
+  eq-eqb _ _ c.if-before-value.false,
+  not-false c.ends_ok.result (ap not c.if-not-ends_ok.false),
+  not-false
+      c.numbers_ok.result (ap not c.if-not-numbers_ok.false),
+)

@@ -17,12 +17,12 @@ field_test-requires c = let low = link_low _ _ _ _ (sym c.link_test.ensures ∙ 
 pub returns-then-not-field_test : goal.returns-then-not-field_test
 unfolding entry_test
 returns-then-not-field_test c = rw (
-      ← c.link_test.ensures,
-      ← c.field_test.ensures,
-      not-false c.link_test.result
-          (ap not c.if-not-link_test.false),
-      not-true c.field_test.result (ap not c.if-not-field_test.true),
-    )
+  ← c.link_test.ensures,
+  ← c.field_test.ensures,
+  not-false c.link_test.result
+      (ap not c.if-not-link_test.false),
+  not-true c.field_test.result (ap not c.if-not-field_test.true),
+)
 
 pub chain_test-requires : goal.chain_test-requires
 chain_test-requires c = let link = c.link_test in

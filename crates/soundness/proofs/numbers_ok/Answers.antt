@@ -18,80 +18,80 @@ returns-then-s-average c = rw (← c.value.ensures, eq-eqb _ _ c.if-value-s.fals
 pub returns-then-value-middle : goal.returns-then-value-middle
 unfolding numbers_with
 returns-then-value-middle c = rw (
-      ← c.value.ensures,
-      ← c.value-2.ensures,
-      eq-eqb _ _ c.if-value-s.false,
-      le-ltb _
-          _ c.if-s-average.false,
-      ne_eqb _ _ c.if-value-middle.true,
-    )
+  ← c.value.ensures,
+  ← c.value-2.ensures,
+  eq-eqb _ _ c.if-value-s.false,
+  le-ltb _
+      _ c.if-s-average.false,
+  ne_eqb _ _ c.if-value-middle.true,
+)
 
 pub returns-then-value-aged : goal.returns-then-value-aged
 unfolding numbers_with
 returns-then-value-aged c = rw (
-      ← c.value.ensures,
-      ← c.value-2.ensures,
-      ← c.value-3.ensures,
-      eq-eqb _ _ c.if-value-s.false,
-      le-ltb _ _
-          c.if-s-average.false,
-      eq-eqb _ _ c.if-value-middle.false,
-      ne_eqb _ _ c.if-value-aged.true,
-    )
+  ← c.value.ensures,
+  ← c.value-2.ensures,
+  ← c.value-3.ensures,
+  eq-eqb _ _ c.if-value-s.false,
+  le-ltb _ _
+      c.if-s-average.false,
+  eq-eqb _ _ c.if-value-middle.false,
+  ne_eqb _ _ c.if-value-aged.true,
+)
 
 pub returns-then-value-ne0 : goal.returns-then-value-ne0
 unfolding numbers_with
 returns-then-value-ne0 c = rw (
-      ← c.value.ensures,
-      ← c.value-2.ensures,
-      ← c.value-3.ensures,
-      ← c.value-4.ensures,
-      eq-eqb _
-          _ c.if-value-s.false,
-      le-ltb _ _
-          c.if-s-average.false,
-      eq-eqb _ _ c.if-value-middle.false,
-      eq-eqb _ _
-          c.if-value-aged.false,
-      ne_eqb _ _ c.if-value-ne0.true,
-    )
+  ← c.value.ensures,
+  ← c.value-2.ensures,
+  ← c.value-3.ensures,
+  ← c.value-4.ensures,
+  eq-eqb _
+      _ c.if-value-s.false,
+  le-ltb _ _
+      c.if-s-average.false,
+  eq-eqb _ _ c.if-value-middle.false,
+  eq-eqb _ _
+      c.if-value-aged.false,
+  ne_eqb _ _ c.if-value-ne0.true,
+)
 
 pub returns-then-value-ne0-2 : goal.returns-then-value-ne0-2
 unfolding numbers_with
 returns-then-value-ne0-2 c = rw (
-      ← c.value.ensures,
-      ← c.value-2.ensures,
-      ← c.value-3.ensures,
-      ← c.value-4.ensures,
-      ← c.value-5.ensures,
-      eq-eqb _ _
-          c.if-value-s.false,
-      le-ltb _ _
-          c.if-s-average.false,
-      eq-eqb _ _
-          c.if-value-middle.false,
-      eq-eqb _ _ c.if-value-aged.false,
-      eq-eqb _ _
-          c.if-value-ne0.false,
-      ne_eqb _ _ c.if-value-ne0-2.true,
-    )
+  ← c.value.ensures,
+  ← c.value-2.ensures,
+  ← c.value-3.ensures,
+  ← c.value-4.ensures,
+  ← c.value-5.ensures,
+  eq-eqb _ _
+      c.if-value-s.false,
+  le-ltb _ _
+      c.if-s-average.false,
+  eq-eqb _ _
+      c.if-value-middle.false,
+  eq-eqb _ _ c.if-value-aged.false,
+  eq-eqb _ _
+      c.if-value-ne0.false,
+  ne_eqb _ _ c.if-value-ne0-2.true,
+)
 
 pub returns : goal.returns
 unfolding numbers_with
 returns c = rw (
-      ← c.value.ensures,
-      ← c.value-2.ensures,
-      ← c.value-3.ensures,
-      ← c.value-4.ensures,
-      ← c.value-5.ensures,
-      eq-eqb _ _
-          c.if-value-s.false,
-      le-ltb _ _
-          c.if-s-average.false,
-      eq-eqb _ _
-          c.if-value-middle.false,
-      eq-eqb _ _ c.if-value-aged.false,
-      eq-eqb _ _
-          c.if-value-ne0.false,
-      eq-eqb _ _ c.if-value-ne0-2.false,
-    )
+  ← c.value.ensures,
+  ← c.value-2.ensures,
+  ← c.value-3.ensures,
+  ← c.value-4.ensures,
+  ← c.value-5.ensures,
+  eq-eqb _ _
+      c.if-value-s.false,
+  le-ltb _ _
+      c.if-s-average.false,
+  eq-eqb _ _
+      c.if-value-middle.false,
+  eq-eqb _ _ c.if-value-aged.false,
+  eq-eqb _ _
+      c.if-value-ne0.false,
+  eq-eqb _ _ c.if-value-ne0-2.false,
+)

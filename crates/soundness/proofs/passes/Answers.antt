@@ -16,16 +16,16 @@ use Rattle.soundness.proofs.passes.Goals as goal
 pub returns-then-number-ne0 : goal.returns-then-number-ne0
 unfolding sound_test settings_in
 returns-then-number-ne0 c = rw (
-      ← c.value-n.ensures,
-      ← c.value-nnew.ensures,
-      ← c.value-nold.ensures,
-      ← c.value-cmax.ensures,
-      ← c.value-amax.ensures,
-      ← c.value-b.ensures,
-      ← c.value-m.ensures,
-      ← c.number.ensures,
-      ne_eqb _ 0 c.if-number-ne0.true,
-    )
+  ← c.value-n.ensures,
+  ← c.value-nnew.ensures,
+  ← c.value-nold.ensures,
+  ← c.value-cmax.ensures,
+  ← c.value-amax.ensures,
+  ← c.value-b.ensures,
+  ← c.value-m.ensures,
+  ← c.number.ensures,
+  ne_eqb _ 0 c.if-number-ne0.true,
+)
 
 pub buckets-nb-requires : goal.buckets-nb-requires
 buckets-nb-requires c = let g = legal_settings _ (sym c.number.ensures ∙ c.if-number-ne0.false) in (g.some_blocks, g.few_blocks)
@@ -39,19 +39,19 @@ kinds_ok-requires c = let g = legal_settings _ (sym c.number.ensures ∙ c.if-nu
 pub returns-then-not-kinds_ok : goal.returns-then-not-kinds_ok
 unfolding sound_test settings_in
 returns-then-not-kinds_ok c = rw (
-      ← c.value-n.ensures,
-      ← c.value-nnew.ensures,
-      ← c.value-nold.ensures,
-      ← c.value-cmax.ensures,
-      ← c.value-amax.ensures,
-      ← c.value-b.ensures,
-      ← c.value-m.ensures,
-      ← c.number.ensures,
-      eq-eqb _ 0 c.if-number-ne0.false,
-      ← c.buckets-nb.ensures,
-      ← c.kinds_ok.ensures,
-      not-true c.kinds_ok.result (ap not c.if-not-kinds_ok.true),
-    )
+  ← c.value-n.ensures,
+  ← c.value-nnew.ensures,
+  ← c.value-nold.ensures,
+  ← c.value-cmax.ensures,
+  ← c.value-amax.ensures,
+  ← c.value-b.ensures,
+  ← c.value-m.ensures,
+  ← c.number.ensures,
+  eq-eqb _ 0 c.if-number-ne0.false,
+  ← c.buckets-nb.ensures,
+  ← c.kinds_ok.ensures,
+  not-true c.kinds_ok.result (ap not c.if-not-kinds_ok.true),
+)
 
 pub lists_ok-requires : goal.lists_ok-requires
 lists_ok-requires c = let g = legal_settings _ (sym c.number.ensures ∙ c.if-number-ne0.false) in
@@ -73,20 +73,20 @@ lists_ok-requires c = let g = legal_settings _ (sym c.number.ensures ∙ c.if-nu
 pub returns : goal.returns
 unfolding sound_test settings_in
 returns c = rw (
-      ← c.value-n.ensures,
-      ← c.value-nnew.ensures,
-      ← c.value-nold.ensures,
-      ← c.value-cmax.ensures,
-      ← c.value-amax.ensures,
-      ← c.value-b.ensures,
-      ← c.value-m.ensures,
-      ← c.number.ensures,
-      eq-eqb _ 0
-          c.if-number-ne0.false,
-      ← c.buckets-nb.ensures,
-      ← c.kinds_ok.ensures,
-      not-false
-          c.kinds_ok.result (ap not c.if-not-kinds_ok.false),
-      lists_walk_lem,
-      ← c.lists_ok.ensures,
-    )
+  ← c.value-n.ensures,
+  ← c.value-nnew.ensures,
+  ← c.value-nold.ensures,
+  ← c.value-cmax.ensures,
+  ← c.value-amax.ensures,
+  ← c.value-b.ensures,
+  ← c.value-m.ensures,
+  ← c.number.ensures,
+  eq-eqb _ 0
+      c.if-number-ne0.false,
+  ← c.buckets-nb.ensures,
+  ← c.kinds_ok.ensures,
+  not-false
+      c.kinds_ok.result (ap not c.if-not-kinds_ok.false),
+  lists_walk_lem,
+  ← c.lists_ok.ensures,
+)

@@ -29,25 +29,25 @@ field-e-requires c = let low = entry_low _ _ _ _ _ _ _ _ _ _ _ (sym c.entry_ok.e
 
 pub loop-p-preserved : goal.loop-p-preserved
 loop-p-preserved c = let l = c.loop-p in (
-      rw (
-        c.field-e.ensures,
-        c.met_at-old.ensures,
-        c.met_at-young.ensures,
-        c.note.ensures,
-        c.field-w.ensures,
-        c.field-c.ensures,
-      )
-          (sym (turns_up _ _ _ _ l.p (l.e, l.before, l.p, l.s, l.marks, l.last, l.young, l.old)
-          c.loop-p-test.true
-          (sym c.entry_ok.ensures
-          ∙ not-false _ (ap not c.if-not-entry_ok.false))) ∙ l.invariant.0),
-      omega
-          (arith, l.invariant.1, c.field-c),
-      omega
-          (arith, l.invariant.2, c.field-w),
-      omega
-          (arith, c.loop-p-test.true),
-    )
+  rw (
+    c.field-e.ensures,
+    c.met_at-old.ensures,
+    c.met_at-young.ensures,
+    c.note.ensures,
+    c.field-w.ensures,
+    c.field-c.ensures,
+  )
+      (sym (turns_up _ _ _ _ l.p (l.e, l.before, l.p, l.s, l.marks, l.last, l.young, l.old)
+      c.loop-p-test.true
+      (sym c.entry_ok.ensures
+      ∙ not-false _ (ap not c.if-not-entry_ok.false))) ∙ l.invariant.0),
+  omega
+      (arith, l.invariant.1, c.field-c),
+  omega
+      (arith, l.invariant.2, c.field-w),
+  omega
+      (arith, c.loop-p-test.true),
+)
 
 pub returns : goal.returns
 returns c = let l = c.loop-p in c.end_ok.ensures

@@ -3,4 +3,4 @@ use Rattle.stack_moves.proofs.boundaries_up.Goals as goal
 
 pub returns : goal.returns
 unfolding boundaries_up
-returns c =         rw (c.new_boundary_up.ensures, c.old_boundary_up.ensures)
+returns c = rw (c.new_boundary_up.ensures, c.old_boundary_up.ensures)

@@ -9,4 +9,4 @@ overflow_add-section c = search rules
 
 pub returns : goal.returns
 unfolding boundary_to
-returns c =                     rw (c.set_link.ensures, c.set_number.ensures, c.word_of-2.ensures, c.get-section.ensures, c.word_of.ensures)
+returns c = rw (c.set_link.ensures, c.set_number.ensures, c.word_of-2.ensures, c.get-section.ensures, c.word_of.ensures)

@@ -4,7 +4,7 @@ use Rattle.stack_moves.proofs.old_boundary_up.Goals as goal
 
 pub returns-then-section-eq-OLD : goal.returns-then-section-eq-OLD
 unfolding old_boundary_up
-returns-then-section-eq-OLD c =     rw (eq-eqb _ _ c.if-section-eq-OLD.true, c.boundary_up.ensures)
+returns-then-section-eq-OLD c = rw (eq-eqb _ _ c.if-section-eq-OLD.true, c.boundary_up.ensures)
 
 pub returns-else-section-eq-OLD : goal.returns-else-section-eq-OLD
 unfolding old_boundary_up

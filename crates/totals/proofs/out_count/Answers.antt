@@ -6,7 +6,7 @@ use Rattle.totals.proofs.out_count.Goals as goal
 
 pub returns-then-mark-eq-MARKED : goal.returns-then-mark-eq-MARKED
 unfolding out_counted
-returns-then-mark-eq-MARKED c =         let word : ℕ = c.args.mark in
+returns-then-mark-eq-MARKED c = let word : ℕ = c.args.mark in
     rw (eq-eqb (word % 2) 1 (omega (arith, c.if-mark-eq-MARKED.true)), c.total_raise.ensures)
 
 pub returns-else-mark-eq-MARKED : goal.returns-else-mark-eq-MARKED

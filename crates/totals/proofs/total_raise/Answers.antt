@@ -11,7 +11,7 @@ overflow_add-b c = search rules
 
 pub returns-then-a-eq-VALUE_MOST : goal.returns-then-a-eq-VALUE_MOST
 unfolding total_raised
-returns-then-a-eq-VALUE_MOST c =                     rw (eq-eqb _ _ (sym c.get-a.ensures ∙ c.if-a-eq-VALUE_MOST.true), ← c.get-b.ensures, c.set_number-then-a-eq-VALUE_MOST.ensures, c.set_number.ensures)
+returns-then-a-eq-VALUE_MOST c = rw (eq-eqb _ _ (sym c.get-a.ensures ∙ c.if-a-eq-VALUE_MOST.true), ← c.get-b.ensures, c.set_number-then-a-eq-VALUE_MOST.ensures, c.set_number.ensures)
 
 pub overflow_add-a : goal.overflow_add-a
 unfolding val
@@ -19,4 +19,4 @@ overflow_add-a c = search rules
 
 pub returns : goal.returns
 unfolding total_raised
-returns c =             rw (ne_eqb _ _ (λ q. c.if-a-eq-VALUE_MOST.false (c.get-a.ensures ∙ q)), ← c.get-a.ensures, c.set_number-2.ensures)
+returns c = rw (ne_eqb _ _ (λ q. c.if-a-eq-VALUE_MOST.false (c.get-a.ensures ∙ q)), ← c.get-a.ensures, c.set_number-2.ensures)

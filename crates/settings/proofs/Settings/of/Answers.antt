@@ -27,6 +27,6 @@ pub returns : goal.returns
 unfolding named
 returns c = rw (sym c.between.ensures ∙ not-false _ (ap not c.if-not-between.false))
     (elim c.if-part-lt1.branch [
-      then-part-lt1 w ↦ rw (w.nold-is, max-eq_left (le_of_lt w.if-part-lt1.true))
+      | then-part-lt1 w ↦ rw (w.nold-is, max-eq_left (le_of_lt w.if-part-lt1.true))
       | else-part-lt1 w ↦ rw (w.nold-is, max-eq_right w.if-part-lt1.false)
     ])
