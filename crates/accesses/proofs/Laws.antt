@@ -13,12 +13,12 @@ use Rattle.basics.specs.Basics.{pick, block_at, put_block}
 use Rattle.settings.specs.declared.Settings.{Settings}
 use Rattle.stack.specs.Counts.{chains}
 use Rattle.stack.specs.Recency.{Place, lookup, counts_pins}
-use Rattle.stack.specs.Stack.{Answer, hit, entered, replaced, purged, absent, flushed, answering, answer_word, miss_refused, pinned, purge_refused}
-use Rattle.stack.specs.BufferLaws.{length_block_at, length_put_block, put_same}
-use Rattle.stack.specs.ReportLaws.{demanded_few}
-use Rattle.stack.specs.PlaceLaws.{Placed, hits, enters, replaces, refusing, all_found}
+use Rattle.stack.specs.Stack.{Answer, hit, entered, replaced, purged, absent, flushed, answering, answer_word, miss_refused, pinned, purge_refused, is_refused}
+use Rattle.stack.proofs.BufferLaws.{length_block_at, length_put_block, put_same}
+use Rattle.stack.proofs.ReportLaws.{demanded_few}
+use Rattle.stack.proofs.PlaceLaws.{Placed, hits, enters, replaces, refusing, all_found}
 use Rattle.layout.specs.Sound.{settings_in, sound, resident_at, residents_in}
-use Rattle.layout.specs.SoundLaws.{sound_legal, sound_residents}
+use Rattle.layout.proofs.SoundLaws.{sound_legal, sound_residents}
 use Rattle.promises.specs.DirectoryPromises.{place_of, Accessed, Purged, Pinned}
 use Rattle.promises.specs.Demand3.{Memory}
 use Rattle.cache_steps.specs.Carried.{settings_of, memory, Ready}
@@ -32,7 +32,6 @@ use Rattle.promises.specs.DirectoryReady.{HitReady, MissReady, EnterReady, Resid
 use Rattle.accesses.specs.declared.Asked.{Asked}
 use Rattle.accesses.specs.Done.{Clean, AskReady, AccessReady, MissesReady, ReplacesReady}
 use Rattle.accesses.specs.Done.{is_hit, ReadDone, WriteDone, PurgeDone, PinDone, AskedDone, PinnedDone}
-use Rattle.stack.specs.PinLaws.{is_refused}
 
 -- ---- answers of a read or a write
 

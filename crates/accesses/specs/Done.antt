@@ -5,7 +5,7 @@ use Rattle.std.proofs.Math.Option.{none}
 use Rattle.basics.specs.Basics.{All, put_block}
 use Rattle.settings.specs.declared.Settings.{Settings}
 use Rattle.stack.specs.Recency.{Resident, lookup}
-use Rattle.stack.specs.Stack.{Work, read, write, purge, Answer, hit, entered, replaced, purged, absent, flushed, miss_refused, pinned, purge_refused, answer_word}
+use Rattle.stack.specs.Stack.{Work, read, write, purge, Answer, hit, entered, replaced, purged, absent, flushed, miss_refused, pinned, purge_refused, answer_word, is_refused}
 use Rattle.layout.specs.Sound.{sound, residents_in}
 use Rattle.promises.specs.DirectoryPromises.{Accessed}
 use Rattle.promises.specs.Demand3.{Memory}
@@ -16,7 +16,6 @@ use Rattle.promises.specs.DirectoryReady.{Countable, ReplaceReady}
 use Rattle.accesses.specs.declared.Asked.{Asked}
 use Rattle.accesses.specs.declared.Place.{Place}
 use Rattle.accesses.specs.declared.Place.TheVariants.{At, AllPinned}
-use Rattle.stack.specs.PinLaws.{is_refused}
 
 -- ---- before
 

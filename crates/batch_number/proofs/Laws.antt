@@ -10,7 +10,7 @@ use Rattle.basics.specs.Basics.{first}
 use Rattle.settings.specs.declared.Settings.{Settings}
 use Rattle.stack.specs.declared.Lengths.{Lengths}
 use Rattle.stack.specs.Batch.{memory_tests, word_tests, batch_tests}
-use Rattle.stack.specs.BatchLaws.{memory_declined, memory_accepted}
+use Rattle.stack.proofs.BatchLaws.{memory_declined, memory_accepted}
 use Rattle.batch_number.specs.declared.Tally.{Tally}
 use Rattle.batch_number.specs.Tallies.{tally}
 

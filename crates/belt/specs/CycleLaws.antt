@@ -11,13 +11,13 @@ use Rattle.settings.specs.Numbers.{settings_number}
 use Rattle.settings.specs.Buckets.{buckets}
 use Rattle.stack.specs.Stack.{Plain, answer_word, empty}
 use Rattle.stack.specs.Batch.{Call, work, batch}
-use Rattle.stack.specs.BatchLaws.{batch_answers}
+use Rattle.stack.proofs.BatchLaws.{batch_answers}
 use Rattle.stack.specs.Examples.{belt}
 use Rattle.layout.specs.Layout.{fresh_number}
 use Rattle.layout.specs.Sound.{view, totals_in}
 use Rattle.promises.specs.Promises.{over, Fresh, Slices, Batch}
 use Rattle.promises.specs.Demand3.{Memory, Lending, lends, leaves, as_call, starts, Alike, Follows, end, call}
-use Rattle.promises.specs.Demand3Laws.{demand3}
+use Rattle.promises.proofs.Demand3Laws.{demand3}
 use Rattle.belt.specs.Belt.{incoming_bytes}
 use Rattle.belt.specs.declared.Outcome.{Outcome}
 use Rattle.belt.specs.Cycles.{belt_start, belt_call, belt_result, Left, ReadOff, Cycled}

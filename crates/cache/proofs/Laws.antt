@@ -16,10 +16,10 @@ use Rattle.basics.specs.Basics.{block_at, put_block, total}
 use Rattle.settings.specs.declared.Settings.{Settings}
 use Rattle.stack.specs.Stack.{Work, read, write, purge, flush, tick, pin, unpin, invalid, Answer, flushed, answer_word}
 use Rattle.stack.specs.Batch.{work, is_read, is_write, is_invalid, how_many, batch_number}
-use Rattle.stack.specs.BatchLaws.{allowed, works_inside}
+use Rattle.stack.proofs.BatchLaws.{allowed, works_inside}
 use Rattle.layout.specs.Sound.{settings_in, totals_in}
 use Rattle.promises.specs.Promises.{over, Slices, call_of, number_of, Batch}
-use Rattle.promises.specs.SliceLaws.{number_zero}
+use Rattle.promises.proofs.SliceLaws.{number_zero}
 use Rattle.promises.specs.Demand3.{Memory}
 use Rattle.cache_steps.specs.Carried.{settings_of, memory, Ready, Carried}
 use Rattle.cache_steps.specs.Runs.{Chain, end, snoc_word, all_carried, chain_ready, chain_answers}

@@ -6,12 +6,12 @@ use Rattle.basics.specs.Basics.{if◌then◌else◌}
 use Rattle.settings.specs.declared.Settings.{Settings}
 use Rattle.stack.specs.Counts.{chains}
 use Rattle.stack.specs.Recency.{Place, found, unused, replacing, asked, refuses, halves, settled, all_pinned, counts_pins}
-use Rattle.stack.specs.Stack.{Work, read, write, Answer, replaced, leaving, saved_all, present, answering, access_totals, access, step}
+use Rattle.stack.specs.Stack.{Work, read, write, Answer, replaced, leaving, saved_all, present, answering, access_totals, access, step, is_refused}
 use Rattle.stack.specs.Entries.{entry_bytes, entry_for, filled, entry_step, Pick, filled_at}
-use Rattle.stack.specs.EntriesLaws.{Entry, entry_placed}
-use Rattle.stack.specs.ForgetLaws.{length_saved_all}
+use Rattle.stack.proofs.EntriesLaws.{Entry, entry_placed}
+use Rattle.stack.proofs.ForgetLaws.{length_saved_all}
 use Rattle.layout.specs.Sound.{settings_in, totals_in, sound, residents_in, view}
-use Rattle.layout.specs.SoundLaws.{sound_residents}
+use Rattle.layout.proofs.SoundLaws.{sound_residents}
 use Rattle.words.specs.Links.{links_changed}
 use Rattle.promises.specs.Promises.{is_still}
 use Rattle.promises.specs.DirectoryPromises.{place_of, Accessed}
@@ -21,7 +21,6 @@ use Rattle.cache_steps.specs.Carries.{cache_with, carry}
 use Rattle.cache_steps.specs.MovedLaws.{Stands, leaving_fit, Moved, entry_room, saved_front, present_front, present_length, filled_moved}
 use Rattle.cache_steps.specs.Places.{placed_in, place_stands, store_room}
 use Rattle.cache_steps.specs.Told.{store_after, bytes_read, told, bytes_after, refuses_is}
-use Rattle.stack.specs.PinLaws.{is_refused}
 
 abbrev pub accessing : Bool → ℕ → Work
 accessing true b = write b

@@ -8,7 +8,7 @@ use Rattle.basics.specs.Basics.{total}
 use Rattle.settings.specs.declared.Settings.{Settings}
 use Rattle.stack.specs.Stack.{Totals, Work}
 use Rattle.stack.specs.Batch.{work, is_read, is_write, is_invalid, how_many, Call, batch_number}
-use Rattle.stack.specs.BatchLaws.{allowed}
+use Rattle.stack.proofs.BatchLaws.{allowed}
 
 -- ---- the words up to one of them
 

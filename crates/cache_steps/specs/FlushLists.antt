@@ -11,9 +11,9 @@ use Rattle.basics.specs.TestLaws.{if_yes}
 use Rattle.stack.specs.declared.Marks.{Marks}
 use Rattle.stack.specs.Recency.{cleared, due, saw_tick, ticked, Resident, marked, remarked}
 use Rattle.stack.specs.Stack.{Work, flush, tick, saved, saved_all}
-use Rattle.stack.specs.PlaceLaws.{all_found}
-use Rattle.stack.specs.MarkLaws.{WritesOut, flush_out, tick_out, chosen_modified}
-use Rattle.stack.specs.EntriesLaws.{Apart}
+use Rattle.stack.proofs.PlaceLaws.{all_found}
+use Rattle.stack.proofs.MarkLaws.{WritesOut, flush_out, tick_out, chosen_modified}
+use Rattle.stack.proofs.EntriesLaws.{Apart}
 use Rattle.promises.specs.DirectoryPromises.{marked_at}
 
 -- the word

@@ -19,11 +19,11 @@ use Rattle.stack.specs.declared.Marks.{Marks}
 use Rattle.stack.specs.Recency.{Resident, remarked}
 use Rattle.stack.specs.Stack.{Totals, Work, flush, tick, flushed, saved, saved_all, flushing, step}
 use Rattle.stack.specs.Entries.{entry_bytes, entry_for, filled, entry_step, Pick}
-use Rattle.stack.specs.EntriesLaws.{Fit}
-use Rattle.stack.specs.ForgetLaws.{length_saved_all}
-use Rattle.stack.specs.PlaceLaws.{all_found}
+use Rattle.stack.proofs.EntriesLaws.{Fit}
+use Rattle.stack.proofs.ForgetLaws.{length_saved_all}
+use Rattle.stack.proofs.PlaceLaws.{all_found}
 use Rattle.layout.specs.Sound.{totals_in, sound, residents_in, settings_in, view}
-use Rattle.layout.specs.SoundLaws.{sound_long, sound_residents, sound_kept}
+use Rattle.layout.proofs.SoundLaws.{sound_long, sound_residents, sound_kept}
 use Rattle.promises.specs.DirectoryPromises.{Kept, Marked, Cleaned, TickSeen, marked_at, more_outs}
 use Rattle.promises.specs.Demand3.{Memory}
 use Rattle.cache_steps.specs.Carried.{cache_of, settings_of, memory, Ready, Carried}

@@ -3,7 +3,7 @@ use Rattle.std.specs.Prelude.{ℕ, ◌+◌, ◌*◌, ◌≤◌, ◌<◌, ◌≡�
 use Rattle.std.proofs.Common.{arith, sym, ap, ◌∙◌, append_assoc, take-append-drop, length-take-le, take_at, drop_at, take-add}
 use Rattle.std.proofs.lemmas.List.{take-append-le, drop-append-le}
 use Rattle.basics.specs.Basics.{block_at, put_block}
-use Rattle.stack.specs.BufferLaws.{block_ends, length_put_block}
+use Rattle.stack.proofs.BufferLaws.{block_ends, length_put_block}
 
 -- ---- a block within the first of two parts
 

@@ -13,7 +13,7 @@ use Rattle.stack.specs.Recency.{Resident, Place, lookup}
 use Rattle.stack.specs.Stack.{Stack, Work, read, write, purge, flush, tick, pin, unpin, invalid, Answer, leaving, saved_all, access, purging, pinning, flushing, step}
 use Rattle.stack.specs.Batch.{is_read, how_many}
 use Rattle.stack.specs.Entries.{entry_bytes, entry_for, entry_step}
-use Rattle.stack.specs.ForgetLaws.{InStore, length_saved_all}
+use Rattle.stack.proofs.ForgetLaws.{InStore, length_saved_all}
 use Rattle.layout.specs.Sound.{residents_in, view}
 use Rattle.promises.specs.DirectoryPromises.{place_of}
 use Rattle.promises.specs.Demand3.{Memory}
@@ -21,7 +21,7 @@ use Rattle.cache_steps.specs.Carried.{cache_of, settings_of, Ready, Carried}
 use Rattle.cache_steps.specs.MovedLaws.{Stands, leaving_fit, present_length}
 use Rattle.cache_steps.specs.Places.{place_stands}
 use Rattle.cache_steps.specs.Runs.{Chain, end, next}
-use Rattle.stack.specs.StackLaws.{purging_either}
+use Rattle.stack.proofs.StackLaws.{purging_either}
 
 module _ (m : Memory) (ready : Ready m) (pick : ℕ) (incoming : List ℕ) where
   abbrev s : Settings

@@ -6,11 +6,11 @@ use mathlib.Core.List.{List, [], ◌∷◌}
 use Rattle.std.proofs.Math.ListN.{length-replicate}
 use Rattle.basics.specs.Basics.{All, if◌then◌else◌, put_block}
 use Rattle.settings.specs.declared.Settings.{Settings}
-use Rattle.stack.specs.BufferLaws.{block_ends, block_front, length_block_at, length_put_block}
+use Rattle.stack.proofs.BufferLaws.{block_ends, block_front, length_block_at, length_put_block}
 use Rattle.stack.specs.Recency.{Resident, Place, found, unused, replacing, all_pinned}
 use Rattle.stack.specs.Stack.{leaving, saved, saved_all, present}
 use Rattle.stack.specs.Entries.{entry_bytes, filled_at, PickAt}
-use Rattle.stack.specs.EntriesLaws.{Fit}
+use Rattle.stack.proofs.EntriesLaws.{Fit}
 use Rattle.cache_steps.specs.FrontLaws.{block_room, put_front, put_past}
 
 -- the resident that a place names, if it names one, has an entry within 1 to N and a block below M

@@ -11,11 +11,11 @@ use Rattle.settings.specs.declared.Settings.{Settings}
 use Rattle.stack.specs.Recency.{Resident, marked, pinned_as, position, pin_at, lookup, remarked}
 use Rattle.stack.specs.Stack.{Totals, Work, pin, unpin, pinned, absent, Step, pinning, step}
 use Rattle.stack.specs.Entries.{Cache, entry_bytes, entry_for, filled, entry_step, Pick}
-use Rattle.stack.specs.PlaceLaws.{all_found}
-use Rattle.stack.specs.BlockLaws.{Differ, lookup_block}
-use Rattle.stack.specs.EntriesLaws.{Apart}
+use Rattle.stack.proofs.PlaceLaws.{all_found}
+use Rattle.stack.proofs.BlockLaws.{Differ, lookup_block}
+use Rattle.stack.proofs.EntriesLaws.{Apart}
 use Rattle.layout.specs.Sound.{totals_in, residents_in, view}
-use Rattle.layout.specs.SoundLaws.{sound_residents, sound_kept}
+use Rattle.layout.proofs.SoundLaws.{sound_residents, sound_kept}
 use Rattle.promises.specs.DirectoryPromises.{marked_at, more_outs, Pinned}
 use Rattle.promises.specs.Demand3.{Memory}
 use Rattle.cache_steps.specs.Carried.{cache_of, settings_of, memory, Ready, Carried}

@@ -7,10 +7,10 @@ use Rattle.basics.specs.AllLaws.{all_map}
 use Rattle.settings.specs.declared.Settings.{Settings}
 use Rattle.settings.specs.NumbersLaws.{old_fits}
 use Rattle.stack.specs.Recency.{Resident, Place}
-use Rattle.stack.specs.PlaceLaws.{Placed, hits, enters, replaces, refusing, placed, all_found}
-use Rattle.stack.specs.EntriesLaws.{Fit}
+use Rattle.stack.proofs.PlaceLaws.{Placed, hits, enters, replaces, refusing, placed, all_found}
+use Rattle.stack.proofs.EntriesLaws.{Fit}
 use Rattle.layout.specs.Sound.{settings_in, sound, order, resident_at, residents_in}
-use Rattle.layout.specs.SoundLaws.{sound_legal, sound_residents}
+use Rattle.layout.proofs.SoundLaws.{sound_legal, sound_residents}
 use Rattle.promises.specs.DirectoryPromises.{place_of}
 use Rattle.promises.specs.Demand3.{Memory}
 use Rattle.cache_steps.specs.Carried.{settings_of, Ready}

@@ -18,7 +18,7 @@ use Rattle.basics.specs.ListLaws.{all_yes, yes_all, same_is, is_same, counting_a
 use Rattle.links.specs.Off.{Off}
 use Rattle.links.specs.Run.{Run, Back}
 use Rattle.links.specs.Sift.{put, sift, off_sift}
-use Rattle.links.specs.Chains.{keyed}
+use Rattle.links.proofs.Chains.{keyed}
 use Rattle.words.specs.Words.{val}
 use Rattle.layout.specs.Addresses.{CACHE-BLOCKS, CHAIN-LIMIT, COUNT, CHAIN-TO-HEAD, CHAIN-TO-TAIL, chain_head, chain_tail}
 use Rattle.layout.specs.Sound.{field, along, walk, order, settings_in, chain_right}

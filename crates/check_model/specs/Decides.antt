@@ -19,7 +19,7 @@ use Rattle.settings.specs.NumbersLaws.{legal_settings}
 use Rattle.settings.specs.Buckets.{buckets}
 use Rattle.layout.specs.Addresses.{CACHE-BLOCKS, NEW-BLOCKS, OLD-BLOCKS, CHAIN-LIMIT, AVERAGE-LIMIT, STORE-BLOCKS, RESIDENTS, SUM, HEAD, TAIL, NEW-BOUNDARY, OLD-BOUNDARY, UNUSED, BLANK-14, BLANK-15, READS, WRITES, INS, OUTS, BLOCK, COUNT, MODIFIED}
 use Rattle.layout.specs.ModifiedWord.{marks_in, is_modified_word}
-use Rattle.layout.specs.ModifiedWordLaws.{word_bit}
+use Rattle.layout.proofs.ModifiedWordLaws.{word_bit}
 use Rattle.layout.specs.Sound.{field, sections_right, settings_in, totals_in, chain_right, bucket_right, stack_tests, resident_tests, chain_tests, sound}
 use Rattle.check_model.specs.Tests.{head_of, tail_of, first_of, kinds_ok, stack_ok, unused_ok, fields_ok, chains_ok, buckets_from, numbers_test, totals_test, mark_bit, total_of, lists_test, sound_test}
 use Rattle.check_model.specs.Bools.{pick_yes, yes_pick, pick_no, no_pick}

@@ -8,7 +8,7 @@ use Rattle.basics.specs.ListLaws.{all_yes, yes_all, counting_all, counting_at}
 use Rattle.basics.specs.AllLaws.{all_map}
 use Rattle.links.specs.Off.{Off, Distinct, off_join}
 use Rattle.links.specs.Run.{Run}
-use Rattle.links.specs.Sll.{run_distinct}
+use Rattle.links.proofs.Sll.{run_distinct}
 use Rattle.words.specs.Words.{val}
 use Rattle.fnv.specs.Fnv.{fnv}
 use Rattle.settings.specs.Buckets.{buckets}

@@ -16,7 +16,7 @@ use Rattle.links.specs.Off.{Off, Distinct, off_join}
 use Rattle.links.specs.Run.{Run, Back}
 use Rattle.links.specs.Ring.{Dll}
 use Rattle.links.specs.Walk.{dll_links}
-use Rattle.links.specs.Sll.{run_distinct}
+use Rattle.links.proofs.Sll.{run_distinct}
 use Rattle.links.specs.Find.{Below, all_there}
 use Rattle.words.specs.Words.{val}
 use Rattle.layout.specs.Addresses.{CACHE-BLOCKS, RESIDENTS, HEAD, TAIL, UNUSED, BLOCK, COUNT, SECTION, MODIFIED, TO-HEAD, TO-TAIL, CHAIN-TO-HEAD, CHAIN-TO-TAIL, NEXT-SYNONYM}

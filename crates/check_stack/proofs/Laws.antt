@@ -5,7 +5,7 @@ use mathlib.Core.Path.{◌≡◌}
 use lib.Dec.{leb}
 use mir.Facts.{leb_yes, yes_leb}
 use Rattle.layout.specs.ModifiedWord.{is_modified_word}
-use Rattle.layout.specs.ModifiedWordLaws.{word_bits, bits_word}
+use Rattle.layout.proofs.ModifiedWordLaws.{word_bits, bits_word}
 use Rattle.basics.specs.TestLaws.{same_truth}
 
 abbrev unpinned : ℕ → ℕ

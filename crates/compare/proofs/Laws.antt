@@ -15,7 +15,7 @@ use Rattle.settings.specs.BucketLaws.{buckets_few}
 use Rattle.stack.specs.Stack.{Stack, Answer}
 use Rattle.layout.specs.Sound.{settings_in, totals_in, residents_in, view}
 use Rattle.layout.specs.Layout.{fresh_words, fresh_number}
-use Rattle.layout.specs.FreshLaws.{sound_fresh, view_fresh}
+use Rattle.layout.proofs.FreshLaws.{sound_fresh, view_fresh}
 use Rattle.promises.specs.Promises.{Fresh}
 use Rattle.promises.specs.DirectoryPromises.{place_of, asked_of, halves_of, Accessed}
 use Rattle.cache_steps.specs.Carried.{memory}
@@ -23,9 +23,10 @@ use Rattle.cache_steps.specs.Places.{placed_in}
 use Rattle.accesses.specs.Done.{Clean, AskReady, AccessDone}
 use Rattle.accesses.specs.declared.Place.{Place}
 use Rattle.accesses.specs.declared.Place.TheVariants.{At, AllPinned}
-use Rattle.opt.specs.MarkLaws.{NotModified, unmodified_again, read_marked, settled_marked}
+use Rattle.opt.proofs.MarkLaws.{NotModified, unmodified_again, read_marked, settled_marked}
 use Rattle.opt.specs.Ins.{block_of, trace_of, ins_of}
-use Rattle.opt.specs.InsLaws.{bare, ins_from, bare_entering, bare_read, ins_from_lem, ins_few, trace_step, trace_end}
+use Rattle.opt.proofs.InsLaws.{bare_entering, bare_read, ins_from_lem, ins_few, trace_step, trace_end}
+use Rattle.opt.specs.Bare.{bare, ins_from}
 use Rattle.compare.specs.Reading.{bare_in, Ready, ReadReady, ReadDone, Trace, most_words, FreshIn}
 
 -- ---- one read

@@ -1,2 +1,4 @@
+pub mod Examples
+pub mod CompareLaws
 pub mod Laws
 pub mod NumberLaws

@@ -23,12 +23,12 @@ use Rattle.stack.specs.Batch.{work, is_read}
 use Rattle.batch_number.specs.Tallies.{kind_of}
 use Rattle.opt.specs.Opt.{opt_ins}
 use Rattle.opt.specs.Ins.{trace_of, most_reads, ins_of, lru}
-use Rattle.opt.specs.LruLaws.{lru_legal}
+use Rattle.opt.proofs.LruLaws.{lru_legal}
 use Rattle.opt_ins.specs.Awaited.{TraceReady}
 use Rattle.compare.specs.declared.Compared.{Compared}
 use Rattle.compare.specs.Compare.{is_trace_read, is_no_trace, compare_number, figures, declined, compared}
 use Rattle.compare.specs.Reading.{Trace}
-use Rattle.compare.specs.CompareLaws.{Accepted, accepted, in_order, minus_small}
+use Rattle.compare.proofs.CompareLaws.{Accepted, accepted, in_order, minus_small}
 
 -- ---- the loop over the words
 

@@ -1,6 +1,7 @@
 -- What the new rule gains on a trace of reads (SCOPE, "What the new rule gains"): the number of a comparison and its five figures; then what
 -- is proved of them. Assumes nothing.
 use Rattle.std.specs.Prelude.{ℕ, ◌+◌, ◌-◌, ◌≤◌, ◌≡◌, ◌≢◌, Bool, ◌||◌, not, List, [], map, length, pos, ◌-ℤ◌, eqb, ltb}
+use Rattle.std.specs.Int.Signed.{mag}
 use Rattle.basics.specs.Basics.{if◌then◌else◌}
 use Rattle.basics.specs.Lists.{all}
 use Rattle.settings.specs.declared.Settings.{Settings}
@@ -74,3 +75,11 @@ NoneGiven = (s : Settings) (words : List ℕ) → let c = compared s words in c.
 -- and where it isn't, the improvement is that of the ins
 abbrev pub Given : Type 0
 Given = (s : Settings) (words : List ℕ) → let c = compared s words in c.possible ≢ 0 → c.gain ≡ pos c.lru -ℤ pos c.chosen
+
+-- figures that an i32 holds
+pub record Small (c : Compared) : Type 0 where
+  pub lru_few : c.lru ≤ 4096
+  pub chosen_few : c.chosen ≤ 4096
+  pub opt_few : c.opt ≤ 4096
+  pub gain_few : mag c.gain ≤ 4096
+  pub possible_few : c.possible ≤ 4096

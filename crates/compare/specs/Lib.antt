@@ -1,4 +1,2 @@
 pub mod Compare
 pub mod Reading
-pub mod CompareLaws
-pub mod Examples

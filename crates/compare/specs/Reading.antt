@@ -7,7 +7,7 @@ use Rattle.layout.specs.Sound.{settings_in, totals_in, sound, residents_in}
 use Rattle.promises.specs.DirectoryReady.{Countable}
 use Rattle.accesses.specs.Done.{Clean}
 use Rattle.opt.specs.Ins.{block_of, most_reads}
-use Rattle.opt.specs.InsLaws.{Bare, bare, after_read}
+use Rattle.opt.specs.Bare.{Bare, bare, after_read}
 
 -- the residents of a directory, their entries forgotten
 abbrev pub bare_in : List ℕ → List Bare

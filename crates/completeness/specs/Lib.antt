@@ -1,6 +1,1 @@
 pub mod Complete
-pub mod LinksLaws
-pub mod EntriesLaws
-pub mod FieldsLaws
-pub mod CompleteLaws
-pub mod WholeLaws

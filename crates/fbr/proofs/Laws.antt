@@ -13,8 +13,8 @@ use mir.ValLaws.{to_z-of_z}
 use Rattle.settings.specs.declared.Settings.{Settings}
 use Rattle.promises.specs.Promises.{over}
 use Rattle.compare.specs.declared.Compared.{Compared}
-use Rattle.compare.specs.Compare.{compared}
-use Rattle.compare.specs.CompareLaws.{Small, small}
+use Rattle.compare.specs.Compare.{compared, Small}
+use Rattle.compare.proofs.CompareLaws.{small}
 use Rattle.fbr.specs.Fronts.{fitted}
 use Rattle.fbr.specs.FrontLaws.{stores, stores_over}
 use Rattle.fbr.specs.Comparison.{compared_figures, compared_returns}

@@ -10,7 +10,7 @@ use Rattle.basics.specs.Basics.{block_at, put_block}
 use Rattle.stack.specs.declared.Marks.{Marks}
 use Rattle.stack.specs.Recency.{Resident}
 use Rattle.layout.specs.Sound.{resident_at, residents_in}
-use Rattle.layout.specs.SoundLaws.{sound_legal, sound_residents}
+use Rattle.layout.proofs.SoundLaws.{sound_legal, sound_residents}
 use Rattle.promises.specs.DirectoryPromises.{Cleaned, TickSeen, entry_at, NextOf}
 use Rattle.promises.specs.Demand3.{Memory}
 use Rattle.promises.specs.DirectoryReady.{ModifiedReady}

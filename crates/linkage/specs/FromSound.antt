@@ -11,11 +11,11 @@ use Rattle.basics.specs.AllLaws.{all_map, all_both}
 use Rattle.links.specs.Upd.{upd, upd_same, upd_other}
 use Rattle.links.specs.Off.{Off, Distinct, Same, off_join}
 use Rattle.links.specs.Ring.{Dll}
-use Rattle.links.specs.Ends.{dll_same}
+use Rattle.links.proofs.Ends.{dll_same}
 use Rattle.links.specs.Walk.{dll_links}
-use Rattle.links.specs.Sll.{sll_same}
+use Rattle.links.proofs.Sll.{sll_same}
 use Rattle.links.specs.Sift.{sift, put, off_sift}
-use Rattle.links.specs.Chains.{keyed, chain, chain_sift}
+use Rattle.links.proofs.Chains.{keyed, chain, chain_sift}
 use Rattle.links.specs.Find.{Below}
 use Rattle.words.specs.Words.{val}
 use Rattle.fnv.specs.Fnv.{fnv}

@@ -13,9 +13,9 @@ use Rattle.basics.specs.ListLaws.{yes_all, counting_all}
 use Rattle.links.specs.Off.{Off, Distinct, Same, off_join}
 use Rattle.links.specs.Run.{Run, run_same, back_same}
 use Rattle.links.specs.Ring.{Dll}
-use Rattle.links.specs.Sll.{run_distinct}
+use Rattle.links.proofs.Sll.{run_distinct}
 use Rattle.links.specs.Sift.{sift, put, off_sift, distinct_sift}
-use Rattle.links.specs.Chains.{keyed, chain, chain_sift}
+use Rattle.links.proofs.Chains.{keyed, chain, chain_sift}
 use Rattle.links.specs.Find.{Below, few}
 use Rattle.words.specs.Words.{val}
 use Rattle.fnv.specs.Fnv.{fnv}

@@ -16,7 +16,7 @@ use Rattle.settings.specs.Numbers.{legal_store}
 use Rattle.basics.specs.WriteLaws.{write_step, write_end, write_length}
 use Rattle.load.specs.Xorshift.{step}
 use Rattle.load.specs.Load.{load_word, load, state_after, declines, load_number, Load}
-use Rattle.load.specs.LoadLaws.{load_length, load_at, after_suc, legal_load}
+use Rattle.load.proofs.LoadLaws.{load_length, load_at, after_suc, legal_load}
 
 -- ---- the word of a state
 

@@ -11,15 +11,15 @@ use borrow.Author.Tests.{eq-eqb, ne_eqb}
 use Rattle.basics.specs.Basics.{block_at}
 use Rattle.settings.specs.declared.Settings.{Settings}
 use Rattle.stack.specs.Recency.{Resident, position, lookup}
-use Rattle.stack.specs.PlaceLaws.{all_found}
-use Rattle.stack.specs.EntriesLaws.{Fit}
+use Rattle.stack.proofs.PlaceLaws.{all_found}
+use Rattle.stack.proofs.EntriesLaws.{Fit}
 use Rattle.layout.specs.Sound.{settings_in, sound, resident_at, residents_in}
-use Rattle.layout.specs.SoundLaws.{sound_residents}
+use Rattle.layout.proofs.SoundLaws.{sound_residents}
 use Rattle.layout.specs.declared.Found.{Found}
 use Rattle.layout.specs.declared.Found.TheVariants.{At, Absent}
 use Rattle.promises.specs.DirectoryPromises.{found_resident}
 use Rattle.promises.specs.Looks.{place_at, look_number, look_bytes, look_place}
-use Rattle.promises.specs.LookLaws.{LookAllowed, look_allowed}
+use Rattle.promises.proofs.LookLaws.{LookAllowed, look_allowed}
 use Rattle.cache_steps.specs.Carried.{Ready, memory}
 use Rattle.cache_steps.specs.MovedLaws.{entry_room}
 use Rattle.cache_steps.specs.Places.{store_room}

@@ -15,9 +15,9 @@ use Rattle.settings.specs.Numbers.{settings_number}
 use Rattle.settings.specs.NumbersLaws.{LegalSettings, number_zero}
 use Rattle.stack.specs.declared.Lengths.{Lengths}
 use Rattle.stack.specs.Batch.{lengths_of, memory_tests, batch_tests, batch_number}
-use Rattle.stack.specs.BatchLaws.{memory_declined, memory_accepted}
+use Rattle.stack.proofs.BatchLaws.{memory_declined, memory_accepted}
 use Rattle.layout.specs.Sound.{settings_in, totals_in, sound}
-use Rattle.layout.specs.SoundLaws.{sound_legal}
+use Rattle.layout.proofs.SoundLaws.{sound_legal}
 use Rattle.promises.specs.Promises.{Slices, call_of, number_of}
 use Rattle.promises.specs.Looks.{look_tests, look_number}
 

@@ -9,11 +9,11 @@ use lib.Dec.{T}
 use lib.Seq.{take-length, length-take-le}
 use Rattle.basics.specs.Basics.{All, bit, total}
 use Rattle.stack.specs.Recency.{Resident}
-use Rattle.stack.specs.PlaceLaws.{Legal}
+use Rattle.stack.specs.Counts.{Legal}
 use Rattle.stack.specs.Occupancy.{class_of, column}
-use Rattle.stack.specs.OccupancyLaws.{raised, column_more, column_few}
+use Rattle.stack.proofs.OccupancyLaws.{raised, column_more, column_few}
 use Rattle.layout.specs.Sound.{order, sound, resident_at, residents_in, view}
-use Rattle.layout.specs.SoundLaws.{sound_legal, sound_residents, sound_kept}
+use Rattle.layout.proofs.SoundLaws.{sound_legal, sound_residents, sound_kept}
 use Rattle.promises.specs.DirectoryPromises.{entry_at, NextOf}
 use Rattle.promises.specs.Occupancy.{no_figures}
 use Rattle.occupancy.specs.Walk.{Shows, Room, Walked}

@@ -1,7 +1,7 @@
 -- Where the walk along the stack stands. Statements only.
 use Rattle.std.specs.Prelude.{ℕ, ◌≤◌, ◌≡◌, List, get_or, take}
 use Rattle.stack.specs.Recency.{Resident}
-use Rattle.stack.specs.PlaceLaws.{Legal}
+use Rattle.stack.specs.Counts.{Legal}
 use Rattle.stack.specs.Occupancy.{table}
 use Rattle.layout.specs.Sound.{residents_in}
 use Rattle.promises.specs.DirectoryPromises.{entry_at}

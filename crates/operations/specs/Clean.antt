@@ -15,7 +15,7 @@ use Rattle.stack.specs.Recency.{cleared, saw_tick, Resident, remarked, counts, p
 use Rattle.layout.specs.Addresses.{COUNT, MODIFIED, READS, WRITES, INS, OUTS}
 use Rattle.layout.specs.ModifiedWord.{marks_in, is_modified_word}
 use Rattle.layout.specs.Sound.{settings_in, totals_in, sound, residents_in, view}
-use Rattle.layout.specs.SoundLaws.{sound_kept}
+use Rattle.layout.proofs.SoundLaws.{sound_kept}
 use Rattle.promises.specs.DirectoryPromises.{marked_at, more_outs, Marked, Cleaned, TickSeen, Pinned}
 use Rattle.linkage.specs.Fields.{Shape, base, Fields, put, entry, header, in_header, view_get}
 use Rattle.linkage.specs.WellLinked.{Entry, Sum, total}

@@ -9,7 +9,7 @@ use Rattle.links.specs.Upd.{upd, upd_same, upd_other}
 use Rattle.links.specs.Off.{Off, Distinct, Same}
 use Rattle.links.specs.Run.{Back, last, back_last_is, same_upd}
 use Rattle.links.specs.Ring.{Ring, push_front}
-use Rattle.links.specs.Sll.{Sll, sll_keep, sll_pop, sll_distinct}
+use Rattle.links.proofs.Sll.{Sll, sll_keep, sll_pop, sll_distinct}
 use Rattle.links.specs.All.{all_off, all_at, all_head}
 use Rattle.links.specs.Place.{back_at}
 use Rattle.layout.specs.Addresses.{RESIDENTS, NEW-BOUNDARY, OLD-BOUNDARY, UNUSED, SECTION, TO-HEAD, TO-TAIL}

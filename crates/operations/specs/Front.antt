@@ -7,7 +7,7 @@ use Rattle.links.specs.Upd.{upd}
 use Rattle.links.specs.Off.{Off, Distinct, Same, distinct_less, distinct_off}
 use Rattle.links.specs.Run.{same_upd}
 use Rattle.links.specs.Ring.{remove, to_front_lem}
-use Rattle.links.specs.Sll.{Sll, sll_keep}
+use Rattle.links.proofs.Sll.{Sll, sll_keep}
 use Rattle.links.specs.All.{all_here, all_less, off_all, all_at, all_next, all_prev, all_head}
 use Rattle.layout.specs.Addresses.{NEW-BOUNDARY, OLD-BOUNDARY, UNUSED, SECTION, TO-HEAD, TO-TAIL}
 use Rattle.linkage.specs.Fields.{Shape, Fields, in_header}

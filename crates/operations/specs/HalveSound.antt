@@ -7,7 +7,7 @@ use Rattle.basics.specs.AllLaws.{all_map}
 use Rattle.links.specs.Upd.{upd, upd_same, upd_other}
 use Rattle.links.specs.Off.{Off, Distinct}
 use Rattle.links.specs.Run.{first}
-use Rattle.links.specs.Chains.{chain_nil}
+use Rattle.links.proofs.Chains.{chain_nil}
 use Rattle.links.specs.Walk.{dll_links}
 use Rattle.words.specs.Words.{val, set_link}
 use Rattle.layout.specs.Addresses.{RESIDENTS, SUM, TAIL, COUNT, TO-HEAD, CHAIN-TO-HEAD, CHAIN-TO-TAIL, chain_head, chain_tail}

@@ -3,7 +3,7 @@ use Rattle.std.specs.Prelude.{ℕ, ◌≤◌, ◌≡◌, refl, Bool, true, false
 use Rattle.std.proofs.Common.{arith, leb-true, leb-false}
 use Rattle.links.specs.Upd.{upd}
 use Rattle.links.specs.Off.{Off}
-use Rattle.links.specs.Chains.{Chains, chains_remove, chains_less, chains_more, chains_aside, chains_push}
+use Rattle.links.proofs.Chains.{Chains, chains_remove, chains_less, chains_more, chains_aside, chains_push}
 use Rattle.layout.specs.Addresses.{CHAIN-TO-HEAD, CHAIN-TO-TAIL}
 use Rattle.linkage.specs.Fields.{Shape, Fields, CHAIN-HEADS, CHAIN-TAILS}
 use Rattle.linkage.specs.WellLinked.{Has}

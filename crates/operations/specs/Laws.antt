@@ -5,7 +5,7 @@ use Rattle.basics.specs.Basics.{All}
 use Rattle.links.specs.Off.{Off, Distinct, off_join}
 use Rattle.links.specs.Find.{Below}
 use Rattle.links.specs.Sift.{sift_in, sift_out}
-use Rattle.links.specs.Chains.{chain, keyed, eqb_yes, eqb_no, chain_sift}
+use Rattle.links.proofs.Chains.{chain, keyed, eqb_yes, eqb_no, chain_sift}
 
 pub all_below : (n : ℕ) (l : List ℕ) → All (λ x. x ≤ n) l → Below (suc n) l
 all_below n [] a = tt

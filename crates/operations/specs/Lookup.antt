@@ -8,7 +8,7 @@ use Rattle.basics.specs.Basics.{pick, All, if◌then◌else◌}
 use Rattle.basics.specs.AllLaws.{all_map, all_both, all_join}
 use Rattle.links.specs.Off.{Off, off_join}
 use Rattle.links.specs.Run.{Run}
-use Rattle.links.specs.Sll.{sll_distinct}
+use Rattle.links.proofs.Sll.{sll_distinct}
 use Rattle.links.specs.All.{all_off, off_all, all_here}
 use Rattle.links.specs.Find.{Split, find, few, all_there}
 use Rattle.words.specs.Words.{val}

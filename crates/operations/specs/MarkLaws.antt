@@ -4,7 +4,7 @@ use Rattle.std.proofs.Common.{ap, ◌∙◌, arith}
 use Rattle.basics.specs.Basics.{bit}
 use Rattle.stack.specs.Recency.{unmarked, asked_marks, cleared, saw_tick, pinned_as}
 use Rattle.layout.specs.ModifiedWord.{marks_in, is_modified_word}
-use Rattle.layout.specs.ModifiedWordLaws.{word_bits, bits_word}
+use Rattle.layout.proofs.ModifiedWordLaws.{word_bits, bits_word}
 use Rattle.word_ops.specs.Mark.{with_mark, without_write, with_seen, with_pin}
 
 pub word_small : (w : ℕ) → T (is_modified_word w) → w < 8

@@ -22,13 +22,13 @@ use Rattle.stack.specs.Counts.{chains, exceeds}
 use Rattle.stack.specs.Recency.{Resident, unused, counts, position, refuses, halves, settled, lookup, removed, all_pinned, counts_pins, asked}
 use Rattle.stack.specs.Stack.{Totals, Answer, hit, entered, replaced, access_totals, answering, miss_refused, halved}
 use Rattle.stack.specs.Entries.{entry_for, PickAt, Unused}
-use Rattle.stack.specs.PlaceLaws.{Placed, placed}
-use Rattle.stack.specs.SumLaws.{is_full, full_calm, settled_sum}
-use Rattle.stack.specs.KeepLaws.{fewer, asked_few, Kept}
+use Rattle.stack.proofs.PlaceLaws.{Placed, placed}
+use Rattle.stack.proofs.SumLaws.{is_full, full_calm, settled_sum}
+use Rattle.stack.proofs.KeepLaws.{fewer, asked_few, Kept}
 use Rattle.layout.specs.Addresses.{UNUSED, BLOCK, COUNT, SECTION, MODIFIED}
 use Rattle.layout.specs.ModifiedWord.{marks_in}
 use Rattle.layout.specs.Sound.{settings_in, totals_in, sound, resident_at, residents_in, view}
-use Rattle.layout.specs.SoundLaws.{sound_legal, sound_kept}
+use Rattle.layout.proofs.SoundLaws.{sound_legal, sound_kept}
 use Rattle.promises.specs.DirectoryPromises.{place_of, asked_of, halves_of, Accessed, Purged}
 use Rattle.linkage.specs.Fields.{Shape, base}
 use Rattle.linkage.specs.WordFields.{shape}

@@ -8,7 +8,7 @@ use Rattle.basics.specs.Basics.{All}
 use Rattle.basics.specs.AllLaws.{all_map, all_both, all_left}
 use Rattle.links.specs.Off.{Distinct, off_left, distinct_off}
 use Rattle.links.specs.Run.{last}
-use Rattle.links.specs.Sll.{Sll, sll_distinct}
+use Rattle.links.proofs.Sll.{Sll, sll_distinct}
 use Rattle.links.specs.All.{all_at, all_next, all_last, off_all}
 use Rattle.links.specs.Find.{few}
 use Rattle.layout.specs.Addresses.{HEAD, TAIL, NEW-BOUNDARY, OLD-BOUNDARY, BLOCK, COUNT, SECTION, TO-HEAD, TO-TAIL, NEXT-SYNONYM}

@@ -7,7 +7,7 @@ use Rattle.links.specs.Upd.{upd, upd_same}
 use Rattle.links.specs.Off.{Off, Distinct, Same, distinct_less}
 use Rattle.links.specs.Run.{same_upd}
 use Rattle.links.specs.Ring.{remove, aside}
-use Rattle.links.specs.Sll.{sll_keep, sll_push}
+use Rattle.links.proofs.Sll.{sll_keep, sll_push}
 use Rattle.links.specs.All.{all_map_off, all_less, all_at}
 use Rattle.layout.specs.Addresses.{NEW-BOUNDARY, OLD-BOUNDARY, UNUSED, SECTION, TO-HEAD, TO-TAIL}
 use Rattle.linkage.specs.Fields.{Shape, Fields, in_header}

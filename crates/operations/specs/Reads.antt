@@ -19,7 +19,7 @@ use Rattle.linkage.specs.Fields.{Shape, Fields, base, ends, view_get}
 use Rattle.linkage.specs.WellLinked.{Entry, WellLinked}
 use Rattle.linkage.specs.WordFields.{shape}
 use Rattle.word_ops.specs.Lists.{word_of}
-use Rattle.victims.specs.Short.{looked_from}
+use Rattle.victims.proofs.Short.{looked_from}
 use Rattle.operations.specs.Seen.{address}
 use Rattle.operations.specs.Residents.{resident, residents_of, alive}
 use Rattle.operations.specs.VictimWords.{search_few}

@@ -6,7 +6,7 @@ use Rattle.basics.specs.Basics.{All}
 use Rattle.basics.specs.AllLaws.{all_map}
 use Rattle.links.specs.Upd.{upd, upd_same, upd_other}
 use Rattle.links.specs.Off.{Off}
-use Rattle.links.specs.Sll.{sll_keep, sll_push}
+use Rattle.links.proofs.Sll.{sll_keep, sll_push}
 use Rattle.links.specs.All.{all_map_off, all_off}
 use Rattle.linkage.specs.Fields.{Shape}
 use Rattle.linkage.specs.WellLinked.{Hash, Bucket, Entry}

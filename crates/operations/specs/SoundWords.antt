@@ -7,7 +7,7 @@ use Rattle.basics.specs.Basics as basics
 use Rattle.stack.specs.Recency.{Resident, counts}
 use Rattle.stack.specs.Stack.{Totals}
 use Rattle.layout.specs.Sound.{settings_in, totals_in, sound, residents_in}
-use Rattle.layout.specs.SoundLaws.{sound_legal}
+use Rattle.layout.proofs.SoundLaws.{sound_legal}
 use Rattle.promises.specs.DirectoryPromises.{Kept}
 use Rattle.linkage.specs.WordFields.{shape, fields}
 use Rattle.linkage.specs.Linkage.{Linkage, linkage}

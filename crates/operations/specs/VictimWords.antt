@@ -13,7 +13,7 @@ use Rattle.word_ops.specs.Victim.{victim_from}
 use Rattle.victims.specs.Linked.{Linked, Worded}
 use Rattle.victims.specs.Chosen.{Answers, Chosen as ChosenBy, Refused as RefusedBy, victim_is}
 use Rattle.victims.specs.Placed.{counts_pins_lem}
-use Rattle.victims.specs.Short.{looked_from, search_short}
+use Rattle.victims.proofs.Short.{looked_from, search_short}
 use Rattle.operations.specs.Directory.{Directory}
 use Rattle.operations.specs.Residents.{Of, resident, residents_of}
 

@@ -1,15 +1,5 @@
 pub mod Opt
 pub mod Ins
+pub mod Bare
 pub mod Schemes
 pub mod Optimal
-pub mod MarkLaws
-pub mod LruLaws
-pub mod RemoveLaws
-pub mod VictimLaws
-pub mod NearLaws
-pub mod OptLaws
-pub mod SchemeLaws
-pub mod StackSchemeLaws
-pub mod InsLaws
-pub mod AwaitedLaws
-pub mod Examples

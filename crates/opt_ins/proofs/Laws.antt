@@ -11,13 +11,13 @@ use borrow.Author.Tests.{ne_eqb, eq-eqb, lt-ltb, le-ltb}
 use mir.Facts.{eqb_yes, yes_eqb}
 use Rattle.basics.specs.Basics.{if◌then◌else◌, index_of}
 use Rattle.stack.specs.Counts.{greatest}
-use Rattle.stack.specs.NumberLaws.{greatest_passes}
+use Rattle.stack.proofs.NumberLaws.{greatest_passes}
 use Rattle.opt.specs.Opt.{opt, opt_ins}
 use Rattle.opt.specs.Ins.{block_of, trace_of, most_reads}
-use Rattle.opt.specs.RemoveLaws.{either, same, apart, below, above}
-use Rattle.opt.specs.NearLaws.{soon, near, near_le, soon_yes, soon_no}
-use Rattle.opt.specs.InsLaws.{trace_step, trace_end}
-use Rattle.opt.specs.AwaitedLaws.{awaited_few, awaited_none, At, Rest, rest_as, noted, hit_waiting, hit_rest, room_rest, full_rest}
+use Rattle.opt.proofs.RemoveLaws.{either, same, apart, below, above}
+use Rattle.opt.proofs.NearLaws.{soon, near, near_le, soon_yes, soon_no}
+use Rattle.opt.proofs.InsLaws.{trace_step, trace_end}
+use Rattle.opt.proofs.AwaitedLaws.{awaited_few, awaited_none, At, Rest, rest_as, noted, hit_waiting, hit_rest, room_rest, full_rest}
 use Rattle.opt_ins.specs.Awaited.{last_awaited, room_awaited, room_waiting, note_awaited, note_waiting, next_at, step_awaited, step_waiting}
 use Rattle.opt_ins.specs.Awaited.{RoomReady, StepReady, TraceReady}
 

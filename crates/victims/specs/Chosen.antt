@@ -7,8 +7,8 @@ use Rattle.basics.specs.Basics.{All, member}
 use Rattle.links.specs.All.{all_at}
 use Rattle.settings.specs.declared.Settings.{Settings}
 use Rattle.stack.specs.Counts.{old, unpinned, count_at, unpinned_at, victim, chains, looked as lookedThrough}
-use Rattle.stack.specs.CountsLaws.{Outcome, all_pinned_lem, a_victim, outcome}
-use Rattle.stack.specs.SearchLaws.{search, search_finds}
+use Rattle.stack.proofs.CountsLaws.{Outcome, all_pinned_lem, a_victim, outcome}
+use Rattle.stack.proofs.SearchLaws.{search, search_finds}
 use Rattle.layout.specs.Addresses.{COUNT, MODIFIED}
 use Rattle.layout.specs.ModifiedWord.{marks_in}
 use Rattle.word_ops.specs.declared.Victim.{Victim}

@@ -17,11 +17,11 @@ use Rattle.links.specs.Off.{Same}
 use Rattle.links.specs.Run.{Back, back_same}
 use Rattle.links.specs.All.{all_at, off_all}
 use Rattle.links.specs.Sift.{sift, put}
-use Rattle.links.specs.Chains.{chain, chain_sift, keyed, all_chain}
+use Rattle.links.proofs.Chains.{chain, chain_sift, keyed, all_chain}
 use Rattle.words.specs.Words.{val}
 use Rattle.settings.specs.declared.Settings.{Settings}
 use Rattle.stack.specs.Counts.{old, unpinned, count_at, unpinned_at, greatest, looked}
-use Rattle.stack.specs.SearchLaws.{victim_of, last_of, least_recent, search}
+use Rattle.stack.proofs.SearchLaws.{victim_of, last_of, least_recent, search}
 use Rattle.layout.specs.Addresses.{TAIL, COUNT, SECTION, MODIFIED, TO-HEAD, CHAIN-TO-HEAD, chain_tail}
 use Rattle.layout.specs.ModifiedWord.{marks_in}
 use Rattle.word_ops.specs.Lists.{word_of}

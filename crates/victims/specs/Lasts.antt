@@ -8,9 +8,9 @@ use Rattle.basics.specs.AllLaws.{all_map}
 use Rattle.basics.specs.TestLaws.{if_yes, if_no}
 use Rattle.links.specs.All.{all_sift}
 use Rattle.links.specs.Sift.{sift, put}
-use Rattle.links.specs.Chains.{chain, chain_sift, keyed}
+use Rattle.links.proofs.Chains.{chain, chain_sift, keyed}
 use Rattle.stack.specs.Counts.{greatest}
-use Rattle.stack.specs.NumberLaws.{greatest_passes, greatest_cases}
+use Rattle.stack.proofs.NumberLaws.{greatest_passes, greatest_cases}
 
 -- the last that passes, or d where none does
 abbrev pub last_on : (ℕ → Bool) → List ℕ → ℕ → ℕ

@@ -9,8 +9,8 @@ use Rattle.std.proofs.Math.Facts.{leb_yes, yes_leb}
 use Rattle.basics.specs.Basics.{member}
 use Rattle.settings.specs.declared.Settings.{Settings}
 use Rattle.stack.specs.Counts.{old, unpinned}
-use Rattle.stack.specs.NumberLaws.{member_at, member_found, greatest_passes, greatest_cases, unpinned_at_lem, unpinned_found}
-use Rattle.stack.specs.SearchLaws.{victim_of, victim_of_lem, of_victim, last_of}
+use Rattle.stack.proofs.NumberLaws.{member_at, member_found, greatest_passes, greatest_cases, unpinned_at_lem, unpinned_found}
+use Rattle.stack.proofs.SearchLaws.{victim_of, victim_of_lem, of_victim, last_of}
 use Rattle.basics.specs.TestLaws.{same_truth}
 
 module _ (s : Settings) (xs : List (ℕ × Bool)) (i : ℕ) where

@@ -5,7 +5,7 @@ use mathlib.Core.List.{List}
 use lib.ListN.{length, length-append}
 use borrow.Author.Tests.{le-leb, lt-leb}
 use Rattle.promises.specs.Occupancy.{table_in}
-use Rattle.promises.specs.OccupancyLaws.{eight}
+use Rattle.promises.proofs.OccupancyLaws.{eight}
 use Rattle.fbr.specs.Occupancy.{occupancy_figures}
 use Rattle.fbr.specs.FrontLaws.{two_fronts}
 use Rattle.fbr.proofs.fbr_occupancy.Goals as goal

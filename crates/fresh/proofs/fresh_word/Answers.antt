@@ -1,7 +1,7 @@
 use native.Mathlib.Omega.{arith}
 use mathlib.Core.Path.{sym, ◌∙◌}
 use Rattle.settings.specs.NumbersLaws.{legal_settings}
-use Rattle.layout.specs.FreshAtLaws.{header_at, link_at}
+use Rattle.layout.proofs.FreshAtLaws.{header_at, link_at}
 use Rattle.fresh.proofs.Laws.{entry_number, entry_link, entry_next}
 use Rattle.fresh.proofs.fresh_word.Goals as goal
 

@@ -1,7 +1,7 @@
 use native.Mathlib.Omega.{arith}
 use mathlib.Core.Path.{sym, ◌∙◌}
 use lib.Seq.{length-take-le}
-use Rattle.load.specs.LoadLaws.{legal_load}
+use Rattle.load.proofs.LoadLaws.{legal_load}
 use Rattle.load.proofs.Laws.{load_declined, load_accepted}
 use Rattle.load.proofs.load.Goals as goal
 

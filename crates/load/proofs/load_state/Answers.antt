@@ -1,6 +1,6 @@
 use native.Mathlib.Omega.{arith}
 use mathlib.Core.Path.{refl, sym, ◌∙◌}
-use Rattle.load.specs.LoadLaws.{state_declined, state_given}
+use Rattle.load.proofs.LoadLaws.{state_declined, state_given}
 use Rattle.load.proofs.Laws.{one_less, none_left}
 use Rattle.load.proofs.load_state.Goals as goal
 

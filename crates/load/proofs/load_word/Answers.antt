@@ -1,5 +1,5 @@
 use native.Mathlib.Omega.{arith}
-use Rattle.load.specs.LoadLaws.{few_stored, block_below}
+use Rattle.load.proofs.LoadLaws.{few_stored, block_below}
 use Rattle.load.proofs.Laws.{write_word, read_word}
 use Rattle.load.proofs.load_word.Goals as goal
 

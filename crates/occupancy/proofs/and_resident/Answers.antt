@@ -5,9 +5,9 @@ use mathlib.Core.Bool.{Bool, true, false}
 use mir.Val.{bool_byte}
 use borrow.Author.Rules.{rules}
 use Rattle.basics.specs.Basics.{bit}
-use Rattle.stack.specs.PlaceLaws.{Legal}
+use Rattle.stack.specs.Counts.{Legal}
 use Rattle.stack.specs.Occupancy.{class_of}
-use Rattle.stack.specs.OccupancyLaws.{class_below}
+use Rattle.stack.proofs.OccupancyLaws.{class_below}
 use Rattle.occupancy.proofs.Laws.{shows_more}
 use Rattle.occupancy.proofs.and_resident.Goals as goal
 

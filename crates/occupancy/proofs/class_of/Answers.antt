@@ -1,7 +1,7 @@
 use native.Mathlib.Omega.{arith}
 use mathlib.Core.Path.{refl, sym}
 use mathlib.Core.Logic.{inl, inr}
-use Rattle.stack.specs.OccupancyLaws.{no_class, class_at}
+use Rattle.stack.proofs.OccupancyLaws.{no_class, class_at}
 use Rattle.occupancy.proofs.class_of.Goals as goal
 
 pub returns-in-1 : goal.returns-in-1

@@ -1,0 +1,3 @@
+pub mod Sll
+pub mod Ends
+pub mod Chains

@@ -1,0 +1,11 @@
+pub mod Examples
+pub mod MarkLaws
+pub mod LruLaws
+pub mod RemoveLaws
+pub mod VictimLaws
+pub mod NearLaws
+pub mod OptLaws
+pub mod SchemeLaws
+pub mod StackSchemeLaws
+pub mod InsLaws
+pub mod AwaitedLaws

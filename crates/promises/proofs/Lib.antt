@@ -1,0 +1,13 @@
+pub mod ReadsExamples
+pub mod SliceLaws
+pub mod LookLaws
+pub mod OutcomeLaws
+pub mod FollowLaws
+pub mod Demand3Laws
+pub mod OccupancyLaws
+pub mod StoreSizeLaws
+pub mod EachWordLaws
+pub mod PinsLaws
+pub mod AveragesLaws
+pub mod TicksLaws
+pub mod ReadsLaws
