@@ -10,7 +10,7 @@ use Rattle.settings.specs.declared.Settings.{Settings}
 use Rattle.settings.specs.Numbers.{settings_number}
 use Rattle.settings.specs.Buckets.{buckets}
 use Rattle.stack.specs.Stack.{Plain, answer_word, empty}
-use Rattle.stack.specs.Batch.{Call, work, batch}
+use Rattle.stack.specs.Batch.{Call, batch}
 use Rattle.stack.proofs.BatchLaws.{batch_answers}
 use Rattle.stack.specs.Examples.{belt}
 use Rattle.layout.specs.Layout.{fresh_number}

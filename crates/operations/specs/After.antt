@@ -13,7 +13,7 @@ use Rattle.links.specs.Off.{Off}
 use Rattle.links.specs.All.{all_off}
 use Rattle.settings.specs.declared.Settings.{Settings}
 use Rattle.stack.specs.Counts.{is_new, victim}
-use Rattle.stack.specs.Recency.{Resident, unmarked, asked_marks, counts, counted, raise, halve, place, asked, removed, counts_pins}
+use Rattle.stack.specs.Recency.{Resident, unmarked, asked_marks, counted, raise, halve, place, asked, removed, counts_pins}
 use Rattle.layout.specs.Addresses.{BLOCK, COUNT, SECTION, MODIFIED, TO-HEAD}
 use Rattle.layout.specs.ModifiedWord.{marks_in}
 use Rattle.linkage.specs.Fields.{Shape, Fields}

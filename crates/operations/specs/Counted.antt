@@ -8,7 +8,6 @@ use Rattle.stack.specs.Stack.{Totals, access_totals, entering, leaving, modified
 use Rattle.layout.specs.Addresses.{READS}
 pub use Rattle.linkage.specs.Return.{totals_of}
 use Rattle.linkage.specs.Fields.{Fields}
-use Rattle.linkage.specs.WellLinked.{total}
 use Rattle.operations.specs.Totals.{read_total, write_total, in_total, out_total, raise_total}
 use Rattle.operations.specs.Miss.{accessD, missD, out_if}
 

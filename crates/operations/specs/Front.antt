@@ -12,7 +12,7 @@ use Rattle.links.specs.All.{all_here, all_less, off_all, all_at, all_next, all_p
 use Rattle.layout.specs.Addresses.{NEW-BOUNDARY, OLD-BOUNDARY, UNUSED, SECTION, TO-HEAD, TO-TAIL}
 use Rattle.linkage.specs.Fields.{Shape, Fields, in_header}
 use Rattle.linkage.specs.WellLinked.{StackOf, Entry}
-use Rattle.operations.specs.FieldOps.{cross, lower, higher, shift, sections, stack_out, front}
+use Rattle.operations.specs.FieldOps.{cross, lower, higher, shift, stack_out, front}
 use Rattle.operations.specs.Positions.{length_front, length_us}
 use Rattle.operations.specs.HitPlaces.{Tells, told_old, told_new, crossed, second_shift, young_shift, elder_shift}
 use Rattle.operations.specs.Agree.{same_trans, same_pick, all_same2}

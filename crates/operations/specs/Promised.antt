@@ -19,7 +19,7 @@ use Rattle.words.specs.Links.{links_changed}
 use Rattle.words.specs.LinkLaws.{Within}
 use Rattle.settings.specs.declared.Settings.{Settings}
 use Rattle.stack.specs.Counts.{chains, exceeds}
-use Rattle.stack.specs.Recency.{Resident, unused, counts, position, refuses, halves, settled, lookup, removed, all_pinned, counts_pins, asked}
+use Rattle.stack.specs.Recency.{Resident, counts, position, refuses, halves, settled, lookup, removed, all_pinned, counts_pins, asked}
 use Rattle.stack.specs.Stack.{Totals, Answer, hit, entered, replaced, access_totals, answering, miss_refused, halved}
 use Rattle.stack.specs.Entries.{entry_for, PickAt, Unused}
 use Rattle.stack.proofs.PlaceLaws.{Placed, placed}

@@ -3,7 +3,6 @@
 use Rattle.std.specs.Prelude.{ℕ, zero, suc, ◌+◌, ◌*◌, ◌≤◌, ◌<◌, ◌≡◌, ◌≢◌, List, [], ◌∷◌, map, T, length, get_or}
 use Rattle.std.proofs.Math.Path.{refl}
 use Rattle.std.proofs.Common.{◌∙◌, sym, ap, arith}
-use Rattle.std.proofs.Math.Option.{some}
 use Rattle.std.proofs.lemmas.List.{length-map}
 use Rattle.basics.specs.Basics.{All}
 use Rattle.basics.specs.Lists.{those}
@@ -11,7 +10,7 @@ use Rattle.links.specs.Run.{Run}
 use Rattle.words.specs.Words.{val}
 use Rattle.stack.specs.Recency.{lookup}
 use Rattle.layout.specs.Addresses.{CACHE-BLOCKS, RESIDENTS, HEAD, UNUSED, TO-TAIL}
-use Rattle.layout.specs.Sound.{settings_in, totals_in, sound, resident_at, residents_in, order}
+use Rattle.layout.specs.Sound.{settings_in, totals_in, sound, resident_at, residents_in}
 use Rattle.layout.specs.declared.Found.{Found}
 use Rattle.layout.specs.declared.Found.TheVariants.{At, Absent}
 use Rattle.promises.specs.DirectoryPromises.{found_resident, entry_at}

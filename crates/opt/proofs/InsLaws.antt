@@ -8,7 +8,7 @@ use mathlib.Core.List.{List, [], ◌∷◌, map}
 use Rattle.std.proofs.lemmas.List.{length-map}
 use Rattle.std.proofs.Math.ListN.{get_or-map}
 use Rattle.settings.specs.declared.Settings.{Settings}
-use Rattle.stack.specs.Recency.{Resident, hold, Place, found, unused, replacing, all_pinned, place, asked, halves, settled}
+use Rattle.stack.specs.Recency.{Resident, Place, found, unused, replacing, all_pinned, place, asked, halves, settled}
 use Rattle.stack.proofs.RecencyLaws.{hold_place, place_hold, settled_hold, asked_hold, halves_hold}
 use Rattle.stack.proofs.StepLaws.{entering_one}
 use Rattle.stack.specs.Stack.{Plain, read, entering, access, step, plain_step, empty}

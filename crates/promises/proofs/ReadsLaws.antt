@@ -19,7 +19,7 @@ use Rattle.stack.proofs.SureLaws.{empty_sure}
 use Rattle.stack.specs.LastBytes.{gives_up, sevens, Last, first_bytes, last_then, last_reads, ends_in_flush}
 use Rattle.stack.proofs.LastLaws.{Knows, runs}
 use Rattle.promises.specs.Promises.{over, Slices}
-use Rattle.promises.specs.Demand3.{Memory, Lending, Linked, end, call, as_call, leaves, starts, Alike, Agrees, Follows, memory_left, stack_left}
+use Rattle.promises.specs.Demand3.{Memory, Lending, Linked, call, as_call, leaves, starts, Alike, Agrees, Follows, memory_left, stack_left}
 use Rattle.promises.proofs.Demand3Laws.{fresh_legal, demand3}
 use Rattle.promises.proofs.FollowLaws.{alike_store, alike_room, follows_alike}
 use Rattle.promises.specs.Reads.{works_of, of_this_kind, all_of_this_kind, FromFresh, words_and_bytes, asks, reads_of, store_of}

@@ -1,12 +1,6 @@
 -- The examples of the plain stack, by computing.
-use Rattle.std.specs.Prelude.{ℕ, ◌*◌, ◌/◌, ◌%◌, ◌^◌, ◌≡◌, refl, List, [], ◌∷◌, ◌++◌, map, length, replicate}
-use Rattle.std.proofs.Math.Option.{Option, none, some}
-use Rattle.basics.specs.Basics.{word}
-use Rattle.settings.specs.declared.Settings.{Settings}
-use Rattle.stack.specs.Recency.{Resident}
-use Rattle.stack.specs.Stack.{Totals, Plain, answer_word, empty}
-use Rattle.stack.specs.Batch.{Call, Result, batch}
-use Rattle.stack.specs.Examples.{belt, one, tiny, r, w, p, tick, pin, unpin, calling, fresh, is, a_words, Shown, pairs, shown, does, does_one, done, expected}
+use Rattle.std.specs.Prelude.{◌≡◌, refl, [], ◌∷◌, map}
+use Rattle.stack.specs.Examples.{belt, r, w, p, tick, pin, unpin, fresh, is, does, done, expected}
 
 pub examples : done ≡ expected
 unfolding done

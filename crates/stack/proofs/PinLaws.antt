@@ -11,7 +11,7 @@ use Rattle.basics.specs.Basics.{if◌then◌else◌, total}
 use Rattle.settings.specs.declared.Settings.{Settings}
 use Rattle.stack.specs.Counts.{victim}
 use Rattle.stack.specs.Recency.{Resident, Place, found, unused, replacing, all_pinned, counts_pins, position, raise, replacing_at, found_at, place, settled, lookup, asked, refuses, halves}
-use Rattle.stack.specs.Stack.{Plain, Work, read, write, purge, flush, tick, pin, unpin, invalid, Answer, hit, entered, replaced, purged, absent, flushed, miss_refused, pinned, purge_refused, is_refused}
+use Rattle.stack.specs.Stack.{Plain, Work, read, write, purge, flush, tick, pin, unpin, invalid, miss_refused, is_refused}
 use Rattle.stack.specs.Stack.{leaving, entering, modified_count, saved_all, present, answering, access, purging, pinning, flushing, step, plain_step}
 use Rattle.stack.proofs.StackLaws.{purging_either}
 use Rattle.stack.proofs.PlaceLaws.{Placed, hits, enters, replaces, refusing, all_found}

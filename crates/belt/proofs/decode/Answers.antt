@@ -1,4 +1,3 @@
-use Prim.Native.Nat.{◌-◌}
 use native.Mathlib.Omega.{arith}
 use Rattle.belt.proofs.Laws.{decoding_begins, decoding_length, decoding_step, decoding_end}
 use Rattle.belt.proofs.decode.Goals as goal

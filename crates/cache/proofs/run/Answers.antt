@@ -1,5 +1,4 @@
 use native.Mathlib.Omega.{arith}
-use Prim.Native.Nat.{◌-◌}
 use Rattle.cache.proofs.Laws.{run_start, passed_few, word_ready, answer_place, run_next, run_end}
 use Rattle.cache.proofs.run.Goals as goal
 

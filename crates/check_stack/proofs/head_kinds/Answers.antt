@@ -2,7 +2,6 @@ use native.Mathlib.Nat.{sub-zero}
 use borrow.Author.Tests.{not-true, not-false}
 use mathlib.Core.Path.{refl, sym, ◌∙◌}
 use mathlib.Core.Bool.{true}
-use Prim.Native.Nat.{◌-◌}
 use native.Mathlib.Omega.{arith}
 use Rattle.check_model.specs.Tests.{kinds_ok}
 use Rattle.check_model.specs.LoopLaws.{turns_fail, turns_up, turns_end}

@@ -1,6 +1,5 @@
 use native.Mathlib.Omega.{arith}
 use mathlib.Core.Path.{refl}
-use Prim.Native.Nat.{◌-◌}
 use Rattle.compare.proofs.NumberLaws.{passing_stops, passing_next, passing_ends}
 use Rattle.compare.proofs.all_reads.Goals as goal
 

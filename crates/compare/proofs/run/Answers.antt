@@ -1,5 +1,4 @@
 use native.Mathlib.Omega.{arith}
-use Prim.Native.Nat.{◌-◌}
 use Rattle.compare.proofs.Laws.{run_start, read_ready, run_next, run_end}
 use Rattle.compare.proofs.run.Goals as goal
 

@@ -1,4 +1,3 @@
-use Prim.Native.Nat.{◌-◌}
 use native.Mathlib.Omega.{arith}
 use mathlib.Core.Path.{refl}
 use Rattle.occupancy.proofs.Laws.{walk_begins, room, walk_goes_on, walk_ends}

@@ -1,6 +1,5 @@
 use native.Mathlib.Omega.{arith}
 use mathlib.Core.Path.{refl}
-use Prim.Native.Nat.{◌-◌}
 use Rattle.opt_ins.proofs.Laws.{seek_found, seek_next, seek_end}
 use Rattle.opt_ins.proofs.next_read.Goals as goal
 

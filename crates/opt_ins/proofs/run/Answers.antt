@@ -1,5 +1,4 @@
 use native.Mathlib.Omega.{arith}
-use Prim.Native.Nat.{◌-◌}
 use Rattle.opt_ins.proofs.Laws.{going_begins, bit_here, step_ready, going_step, going_ends}
 use Rattle.opt_ins.proofs.run.Goals as goal
 

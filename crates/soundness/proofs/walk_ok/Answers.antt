@@ -1,7 +1,6 @@
 use native.Mathlib.Nat.{sub-zero}
 use borrow.Author.Tests.{not-true, not-false}
 use mathlib.Core.Path.{refl, sym, ◌∙◌}
-use Prim.Native.Nat.{◌-◌}
 use native.Mathlib.Omega.{arith}
 use Rattle.check_model.specs.Walk.{entry_low, walk_test}
 use Rattle.check_model.specs.LoopLaws.{turns_fail, turns_up, turns_end}
