@@ -15,6 +15,7 @@ use Rattle.words.specs.Words.{val}
 use Rattle.fnv.specs.Fnv.{fnv}
 use Rattle.settings.specs.Buckets.{buckets}
 use Rattle.layout.specs.Addresses.{CACHE-BLOCKS, NEW-BLOCKS, OLD-BLOCKS, CHAIN-LIMIT, STORE-BLOCKS, RESIDENTS, HEAD, TAIL, UNUSED, BLOCK, NEXT-SYNONYM}
+use Rattle.check_model.specs.SearchLaws.{bucket_blocks}
 use Rattle.check_model.specs.Turns.{moved}
 use Rattle.check_model.specs.LoopLaws.{moved_last}
 use Rattle.check_model.specs.Tests.{stack_ok, unused_ok, fields_ok, nth_listed, Tested}
@@ -28,15 +29,11 @@ use Rattle.check_model.specs.Buckets.{Behind, behind_none, behind_next, test_rea
 use Rattle.check_model.specs.Listing.{firsts, counted_resident}
 use Rattle.check_model.specs.Decides.{fields_are, counts}
 
--- the blocks below m of bucket b
-unfoldable pub bucket_blocks : ℕ → ℕ → ℕ → List ℕ
-bucket_blocks nb b m = sift (λ v. eqb (fnv v % nb) b) (counting 0 m)
-
 in_bucket : (nb b m v : ℕ) → v < m → fnv v % nb ≡ b → In v (bucket_blocks nb b m)
 unfolding bucket_blocks
 in_bucket nb b m v u e =
-    sift_in (λ v. eqb (fnv v % nb) b) (counting 0 m) v (eq-eqb (fnv v % nb) b e)
-    (λ o. counting_at (λ x. ¬ (v ≡ x)) 0 m (off_all v (counting 0 m) o) v (omega arith) (omega arith) refl)
+    sift_in (λ v. eqb (fnv v % nb) b) _ v (eq-eqb (fnv v % nb) b e)
+    (λ o. counting_at (λ x. ¬ (v ≡ x)) 0 _ (off_all v _ o) v (omega arith) (omega arith) refl)
 
 module _ (w : List ℕ) (small : val w CHAIN-LIMIT ≤ 64) where
   abbrev n : ℕ

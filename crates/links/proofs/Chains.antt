@@ -12,7 +12,8 @@ use Rattle.links.specs.Upd.{upd, upd_same, upd_other}
 use Rattle.links.specs.Off.{Off, Same, same_off, off_join, off_left, off_right}
 use Rattle.links.specs.Run.{run_first_of, back_last_of, run_first, last, first}
 use Rattle.links.specs.Ring.{Dll}
-use Rattle.links.proofs.Ends.{at, end, dll_same, dll_keep, to_ring, remove_ends, insert_ends}
+use Rattle.links.proofs.Ends.{dll_same, dll_keep, to_ring, remove_ends, insert_ends}
+use Rattle.links.specs.Ends.{at, end}
 use Rattle.links.specs.All.{all_sift, all_next, all_prev, all_head}
 use Rattle.links.specs.Sift.{sift, sift_append, sift_in, sift_out, sift_same, off_sift, off_fails, sift_last, sift_first}
 

@@ -6,7 +6,8 @@ use Rattle.links.specs.Upd.{upd, upd_same, upd_other}
 use Rattle.links.specs.Off.{Off, Distinct, Same, same_off, off_right, off_less}
 use Rattle.links.specs.Run.{Run, run_same, run_keep, last}
 use Rattle.links.specs.Ring.{cut_run}
-use Rattle.links.proofs.Ends.{at, end, at_is, end_is}
+use Rattle.links.proofs.Ends.{at_is, end_is}
+use Rattle.links.specs.Ends.{at, end}
 use Rattle.links.specs.Walk.{Depth, depth_one}
 
 -- no field says that the entries differ: that follows

@@ -4,7 +4,7 @@ use Rattle.std.proofs.Common.{◌∙◌}
 use Rattle.basics.specs.Basics.{pick, All}
 use Rattle.links.specs.Upd.{upd, upd_other}
 use Rattle.links.specs.Off.{Same, same_all}
-use Rattle.links.proofs.Ends.{at}
+use Rattle.links.specs.Ends.{at}
 
 pub same_trans : (f g h : ℕ → ℕ) (xs : List ℕ) → Same f g xs → Same g h xs → Same f h xs
 same_trans f g h [] a b = tt

@@ -2,7 +2,7 @@
 use Rattle.std.specs.Prelude.{ℕ, zero, suc, ◌+◌, ◌-◌, Bool, not, eqb, leb}
 use Rattle.basics.specs.Basics.{pick}
 use Rattle.links.specs.Upd.{upd}
-use Rattle.links.proofs.Ends.{at, end}
+use Rattle.links.specs.Ends.{at, end}
 use Rattle.layout.specs.Addresses.{RESIDENTS, SUM, NEW-BOUNDARY, OLD-BOUNDARY, UNUSED, BLOCK, COUNT, SECTION, MODIFIED, TO-HEAD, TO-TAIL, CHAIN-TO-HEAD, CHAIN-TO-TAIL, NEXT-SYNONYM}
 use Rattle.linkage.specs.Fields.{Shape, Fields, setF, put, put1, CHAIN-HEADS, CHAIN-TAILS, BUCKET-HEADS, in_header}
 use Rattle.word_ops.specs.Hit.{or_else, raised_count}

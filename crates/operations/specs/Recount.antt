@@ -6,7 +6,7 @@ use Rattle.basics.specs.AllLaws.{all_map, all_both}
 use Rattle.links.specs.Upd.{upd, upd_same, upd_other}
 use Rattle.links.specs.Off.{Off}
 use Rattle.links.specs.Run.{same_upd}
-use Rattle.links.proofs.Ends.{at}
+use Rattle.links.specs.Ends.{at}
 use Rattle.links.specs.All.{all_map_off, all_less, off_all}
 use Rattle.links.proofs.Chains.{same_at, chain_links, chain_head_lem, chains_key}
 use Rattle.layout.specs.Addresses.{COUNT, CHAIN-TO-HEAD, CHAIN-TO-TAIL}

@@ -9,7 +9,7 @@ use Rattle.std.proofs.Math.Decide.{ℕ_discrete}
 use Rattle.std.proofs.Math.Dec.{eqb, eqb-suc-zero}
 use Rattle.basics.specs.Basics.{pick}
 use Rattle.links.specs.Upd.{upd, upd_same, upd_other}
-use Rattle.links.proofs.Ends.{at, end}
+use Rattle.links.specs.Ends.{at, end}
 use Rattle.words.specs.Words.{set_link, set_number}
 use Rattle.layout.specs.Addresses.{HEAD, TAIL, TO-HEAD, TO-TAIL}
 use Rattle.linkage.specs.Fields.{Shape, base, Fields, setF, put, put1, kind, Address, entry, ends, chain, bucket, header, in_header, View, view_put}

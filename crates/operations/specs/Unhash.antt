@@ -10,7 +10,7 @@ use Rattle.basics.specs.AllLaws.{all_map, all_left}
 use Rattle.links.specs.Upd.{upd, upd_same, upd_other}
 use Rattle.links.specs.Off.{Off, off_more, distinct_off}
 use Rattle.links.specs.Run.{last}
-use Rattle.links.proofs.Ends.{at, end}
+use Rattle.links.specs.Ends.{at, end}
 use Rattle.links.proofs.Sll.{Sll, sll_keep, sll_same, sll_remove, sll_distinct}
 use Rattle.links.specs.All.{all_map_off, all_less, all_last, all_off}
 use Rattle.links.proofs.Chains.{same_at}

@@ -12,7 +12,8 @@ use Rattle.stack.specs.Stack.{Plain, Work, answer_word, halved}
 use Rattle.stack.specs.Batch.{Ran, nothing, work, batch_number, AllReported, batch}
 use Rattle.stack.specs.Entries.{Cache, plain, entry_run}
 use Rattle.stack.proofs.RunLaws.{plain_ran}
-use Rattle.stack.proofs.BatchLaws.{Fits, allowed, batch_declined}
+use Rattle.stack.proofs.BatchLaws.{allowed, batch_declined}
+use Rattle.stack.proofs.FitLaws.{Fits}
 use Rattle.layout.specs.Sound.{settings_in, totals_in, sound, view}
 use Rattle.promises.specs.Promises.{over, Fresh, Slices, behind, call_of, number_of, Accepted, Batch}
 use Rattle.promises.proofs.SliceLaws.{number_sound, accepted_same, accepted_reported, after_settings, after_bytes, after_store}

@@ -3,7 +3,7 @@ use Rattle.std.specs.Prelude.{ℕ, ◌<◌, ◌≡◌, List, length, T}
 use Rattle.std.proofs.Math.Dec.{nleb→lt}
 use Rattle.std.proofs.Math.Facts.{T_not-not}
 use Rattle.basics.specs.TestLaws.{first_zero}
-use Rattle.stack.proofs.BatchLaws.{Fits, fits}
+use Rattle.stack.proofs.FitLaws.{Fits, fits}
 use Rattle.layout.specs.Sound.{settings_in, sound}
 use Rattle.promises.specs.Looks.{look_tests, look_number}
 

@@ -12,28 +12,14 @@ use Rattle.basics.specs.TestLaws.{first_zero, first_front, first_never}
 use Rattle.settings.specs.declared.Settings.{Settings}
 use Rattle.stack.specs.Stack.{Totals, Plain, Step, plain_step, Work, read, write, purge, flush, tick, invalid, pin, unpin}
 use Rattle.stack.specs.Batch.{work, is_read, is_write, is_invalid, how_many, Call, lengths_of, nothing, memory_tests, word_tests, batch_tests, batch_number, run, plain_run, batch}
+use Rattle.stack.proofs.FitLaws.{Fits, fits}
 use Rattle.stack.proofs.ForgetLaws.{InStore}
 
 -- ---- data and store
 
--- N blocks of data or more, exactly M of store
-pub record Fits (s : Settings) (bytes store : ℕ) : Type 0 where
-  pub bytes_long : s.n * s.b ≤ bytes
-  pub store_exact : store ≡ s.m * s.b
-
 module _ (s : Settings) (bytes store : ℕ) where
-  -- its tests failed, and so did what follows in a table
-  pub fits : {Later : Type 0}
-      → T (not (ltb bytes (s.n * s.b) || ltb store (s.m * s.b))) × (T (not (ltb (s.m * s.b) store)) × Later)
-      → Fits s bytes store × Later
-  fits f =
-      let a = or_no (ltb bytes (s.n * s.b)) (ltb store (s.m * s.b)) f.0 in
-      let least : s.m * s.b ≤ store = ltb_no a.1 in
-      let most : store ≤ s.m * s.b = ltb_no f.1.0 in
-      (record { bytes_long = ltb_no a.0; store_exact = omega arith }, f.1.1)
-
   pub fits_zero : first (memory_tests s bytes store) ≡ 0 → Fits s bytes store
-  fits_zero e = (fits (first_zero (memory_tests s bytes store) e)).0
+  fits_zero e = (fits s bytes store (first_zero (memory_tests s bytes store) e)).0
 
   -- a table's number is then that of what follows
   pub memory_passed : Fits s bytes store → (rest : List (Bool × ℕ)) → first (memory_tests s bytes store ++ rest) ≡ first rest

@@ -30,3 +30,4 @@ pub mod HeldLaws
 pub mod UnpinnedLaws
 pub mod AverageLaws
 pub mod Examples
+pub mod FitLaws
