@@ -27,7 +27,8 @@ def layers():
             found.append(Layer(line[4:].strip(), []))
         elif ":" in line:
             name, cites = line.split(":", 1)
-            found[-1].crates.append(Crate(name.strip(), " ".join(comment), cites.split()))
+            # "staticlib" may stand behind the name
+            found[-1].crates.append(Crate(name.split()[0], " ".join(comment), cites.split()))
         comment = []
     return found
 

@@ -72,6 +72,8 @@ def main():
         return
     # all of one run: a crate that the log lacks has no time
     times = PROVED.findall(Path(asked.times).read_text(encoding="utf-8")) if asked.times else ROW.findall(old)
+    if not times:
+        sys.exit(f"{asked.times or PAGE} has no time of any crate")
     new = table(dict(times))
     PAGE.write_text(page[:found.start(2)] + new + page[found.end(2):], encoding="utf-8")
 

@@ -1,4 +1,4 @@
-// Links the archive that `rt staticlib fbr` wrote: from the folder FBR_ARCHIVE_DIR names, else beside crates.txt.
+// Links the archive that `scripts/archive.sh` made: from the folder FBR_ARCHIVE_DIR names, else beside crates.txt.
 // A dependent's build script finds the archive's path in DEP_FBR_ARCHIVE.
 use std::env;
 use std::path::{absolute, Path, PathBuf};
@@ -26,9 +26,7 @@ fn beside_crates_txt() -> PathBuf {
 /// Cargo shows these lines and fails the build.
 fn missing(archive: &Path, named: bool) {
     println!("cargo::error=there is no archive {}", archive.display());
-    println!(
-        "cargo::error=`rt staticlib fbr` in the top folder of the repository makes target/staticlib/libfbr.a there"
-    );
+    println!("cargo::error=`bash scripts/archive.sh` of the repository makes target/staticlib/libfbr.a there");
     if named {
         println!("cargo::error=FBR_ARCHIVE_DIR names the folder: unset it, or set it to the one that has libfbr.a");
     } else {

@@ -198,7 +198,7 @@ type Edit = (&'static str, &'static str, String);
 
 const HERE: &str = "check_lists::list_test";
 const LISTS: &str = "check_lists";
-const USES: &str = "ghost use lib.ListN.{length};\n";
+const USES: &str = "ghost use Rattle.layout.specs.Addresses.{COUNT};\n";
 const BOUND: &str = "    let own = fnv::hash(block) & (nb - 1);\n";
 const COMPARED: &str = "    if own != b {\n";
 const SEARCHED: &str = "    no_second_resident(d, entries, start, own, block, ahead)\n";
@@ -264,7 +264,7 @@ fn a_second_hash_is_noticed() {
 #[test]
 fn a_second_hash_behind_a_call_is_noticed() {
     let call = compared_with("words::mix(block)");
-    let helper = "pub fn mix(x: u32) -> u32\n    ensures { λ r. ⌜ r ≡ fnv x ⌝ }\n{\n    fnv::hash(x)\n}\n\n";
+    let helper = "pub fn mix(x: u32) -> u32\n    ensures { result ≡ fnv x }\n{\n    fnv::hash(x)\n}\n\n";
     second("a helper of another crate", &[before("words", WORDS_VALUE, helper), call.clone()], "words::mix");
     let given_on = "pub use fnv::hash as mix;\n\n";
     second("given on by another crate", &[before("words", WORDS_VALUE, given_on), call.clone()], HERE);
@@ -355,8 +355,8 @@ fn what_leads_nowhere_is_named() {
 #[test]
 fn what_is_no_second_hash_is_passed() {
     altered("in a comment", &[before(LISTS, COMPARED, "    // fnv::hash(block) was bound\n")], Ok(()));
-    let contract = "⌜ fnv::hash(block) ≡ record { x = fnv block } × r ≡ listTest (";
-    altered("in a contract", &[instead(LISTS, "⌜ r ≡ listTest (", contract)], Ok(()));
+    let contract = "{ fnv::hash(block) ≡ record { x = fnv block } × result ≡ list_test (";
+    altered("in a contract", &[instead(LISTS, "{ result ≡ list_test (", contract)], Ok(()));
     let unreached = before("words", WORDS_VALUE, "pub fn mix(x: u32) -> u32 {\n    fnv::hash(x)\n}\n\n");
     altered("in a function that is not reached", &[unreached], Ok(()));
     let local = "    let hash = own;\n    let r = Pair { hash: hash };\n";

@@ -142,7 +142,7 @@ fn no_frame_is_large() {
 fn no_call_takes_much_stack() {
     let functions = functions();
     let exported: Vec<&String> = functions.keys().filter(|name| name.starts_with("fbr_")).collect();
-    assert_eq!(exported.len(), EXPORTS.matches("#[no_mangle]").count());
+    assert_eq!(exported.len(), EXPORTS.matches("#[unsafe(no_mangle)]").count());
     for name in exported {
         let (bytes, chain) = deepest(&functions, name, &[]);
         println!("{name}: {bytes} bytes, by {chain:?}");

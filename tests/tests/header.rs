@@ -87,7 +87,7 @@ fn rust_function((_, function): (&str, &str)) -> (String, Function) {
 /// What the library exports. A slice is a pointer and a count there, and the count has no name.
 fn in_library() -> Functions {
     let library = without_line_comments(&text("crates/fbr/src/lib.rt"));
-    library.split("#[no_mangle]").skip(1).map(library_function).collect()
+    library.split("#[unsafe(no_mangle)]").skip(1).map(library_function).collect()
 }
 fn library_function(text: &str) -> (String, Function) {
     let (front, rest) = text.split_once(')').expect("parameters");

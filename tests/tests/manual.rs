@@ -378,6 +378,6 @@ fn a_build_without_the_archive_says_what_makes_it() {
     let mut cargo = cargo("build", &empty.join("target"));
     let output = cargo.env("FBR_ARCHIVE_DIR", &empty).output().unwrap();
     let said = String::from_utf8_lossy(&output.stderr);
-    assert!(!output.status.success() && said.contains("rt staticlib fbr"), "{said}");
+    assert!(!output.status.success() && said.contains("scripts/archive.sh"), "{said}");
     assert!(said.contains(empty.join("libfbr.a").to_str().unwrap()), "{said}");
 }

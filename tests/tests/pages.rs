@@ -1,13 +1,11 @@
 //! What is written beside the code agrees with it: the picture and the table drawn from crates.txt, the dependencies it
 //! lists, and the paths and links of the pages.
-use cache_tests::tree::root;
+use cache_tests::tree::{files, root};
 use std::collections::{BTreeMap, BTreeSet};
 use std::fs;
 use std::path::{Path, PathBuf};
 use std::process::Command;
 
-/// Crates that come with the kit.
-const KIT: [&str; 3] = ["bytes", "io", "libc"];
 const FOLDERS: [&str; 7] = ["crates/", "docs/", "tests/", "include/", "bindings/", "samples/", "scripts/"];
 
 fn read(path: &Path) -> String {
@@ -36,7 +34,7 @@ fn the_table_of_the_crates_is_the_trees() {
 #[test]
 fn the_first_command_of_the_readme() {
     let readme = read(&root().join("README.md"));
-    let from = readme.find("    rt check").expect("no command begins with rt check");
+    let from = readme.find("    bash scripts/archive.sh").expect("no command begins with scripts/archive.sh");
     let command = readme[from..].split("\n\n").next().unwrap();
     let output = Command::new("bash").args(["-c", command]).current_dir(root()).output().unwrap();
     let said = String::from_utf8(output.stdout).unwrap();
@@ -116,24 +114,18 @@ fn paths_in_back_quotes_exist() {
     assert_eq!(missing(quoted_paths, |_| root()), [""; 0]);
 }
 
-/// What crates.txt lists for each crate, the kit's left out.
+/// What crates.txt lists for each crate. Behind the name of a static library stands `staticlib`.
 fn listed() -> BTreeMap<String, BTreeSet<String>> {
     let text = read(&root().join("crates.txt"));
     let lines = text.lines().filter(|line| !line.starts_with('#')).filter_map(|line| line.split_once(':'));
-    let names = |list: &str| list.split_whitespace().filter(|name| !KIT.contains(name)).map(String::from).collect();
-    lines.map(|(name, list)| (name.into(), names(list))).collect()
+    let names = |list: &str| list.split_whitespace().map(String::from).collect();
+    lines.map(|(name, list)| (name.trim_end_matches(" staticlib").into(), names(list))).collect()
 }
 
 /// The .rt and .antt files under a folder.
 fn sources(folder: &Path) -> Vec<PathBuf> {
-    let mut found = vec![];
-    for path in fs::read_dir(folder).unwrap().map(|entry| entry.unwrap().path()) {
-        if path.is_dir() {
-            found.extend(sources(&path));
-        } else if path.extension().is_some_and(|end| end == "rt" || end == "antt") {
-            found.push(path);
-        }
-    }
+    let mut found = files(folder);
+    found.retain(|path| path.extension().is_some_and(|end| end == "rt" || end == "antt"));
     found
 }
 
@@ -141,10 +133,10 @@ fn in_name(c: char) -> bool {
     c.is_ascii_alphanumeric() || c == '_'
 }
 
-/// NAME of each `Rattle·NAME.` and, in code, of each `NAME::`.
+/// NAME of each `Rattle.NAME.` and, in code, of each `NAME::`.
 fn named(path: &Path) -> BTreeSet<String> {
     let text = read(path);
-    let after = text.split("Rattle·").skip(1).filter_map(|rest| rest.split_once('.')).map(|(name, _)| name);
+    let after = text.split("Rattle.").skip(1).filter_map(|rest| rest.split_once('.')).map(|(name, _)| name);
     let mut names: BTreeSet<String> = after.map(String::from).collect();
     if path.extension().is_some_and(|end| end == "rt") {
         let before = text.split("::").map(|part| part.rsplit(|c| !in_name(c)).next().unwrap());

@@ -16,7 +16,8 @@ use Rattle.layout.specs.Sound.{settings_in, totals_in, sound}
 use Rattle.layout.proofs.SoundLaws.{sound_legal}
 use Rattle.promises.specs.Promises.{call_of, number_of}
 use Rattle.load.specs.Xorshift.{State, step}
-use Rattle.load.proofs.XorshiftLaws.{step_state, step_injective, never_to_zero}
+use Rattle.load.proofs.XorshiftLaws.{step_injective, never_to_zero}
+use Rattle.load.proofs.StateLaws.{step_state}
 use Rattle.load.specs.Load.{states, load_word, load, state_after, too_many, declines, load_state}
 use Rattle.load.specs.Load.{WholeLoad, Accesses, Blocks, WordSays, AllAccesses, NeverNine, GoesOn, ZeroDeclines, ComesRound}
 

@@ -6,6 +6,7 @@ use Rattle.std.proofs.Math.Nat.{mul-mod_left, mul-add-mod_self_right, div-eq_of_
 use Rattle.std.proofs.lemmas.Nat.{shr_le, xor_block, xor_mod, xor_shr, xor_lt}
 use Rattle.std.specs.Int.Bits.{bit_xor, xor_zero_r}
 use Rattle.load.specs.Xorshift.{State, left, right, mixed, step, back, NeverToZero, OneToOne, Inverse}
+use Rattle.load.proofs.StateLaws.{left_state, step_state, back_state}
 use Rattle.load.proofs.XorLaws.{xor_swap, xor_cancel}
 
 -- ---- mixes
@@ -79,23 +80,6 @@ left_nothing : (k x : ℕ) → mixed left (k + 32) x ≡ x
 left_nothing k x = mix_nothing left (k + 32) x (left_out k x)
 
 -- ---- states
-
-left_state : (k x : ℕ) → State x → State (mixed left k x)
-unfolding left
-left_state k x h = xor_lt 32 x (x * 2 ^ k % 2 ^ 32) h (mod-lt (x * 2 ^ k) (pow_pos 32))
-
-right_state : (k x : ℕ) → State x → State (mixed right k x)
-unfolding right
-right_state k x h = xor_lt 32 x (x / 2 ^ k) h (lt_of_le_of_lt (shr_le x k) h)
-
-pub step_state : (x : ℕ) → State x → State (step x)
-unfolding step
-step_state x h = left_state 5 (mixed right 17 (mixed left 13 x)) (right_state 17 (mixed left 13 x) (left_state 13 x h))
-
-back_state : (x : ℕ) → State x → State (back x)
-unfolding back
-back_state x h =
-    left_state 26 _ (left_state 13 _ (right_state 17 _ (left_state 20 _ (left_state 10 _ (left_state 5 x h)))))
 
 -- ---- each mix undone
 
