@@ -7,7 +7,7 @@ use Rattle.std.proofs.Math.Path.{refl}
 use Rattle.std.proofs.Math.Bool.{true, false}
 use mathlib.Core.List.{List, [], ◌∷◌, map}
 use borrow.Author.Tests.{ne_eqb}
-use Rattle.basics.specs.Basics.{if◌then◌else◌, pick, total}
+use Rattle.basics.specs.Basics.{when◌then◌else◌, pick, total}
 use Rattle.settings.specs.declared.Settings.{Settings}
 use Rattle.stack.specs.Stack.{Work, read, write, purge, flush, tick, invalid, pin, unpin}
 use Rattle.stack.specs.Batch.{work, is_read, is_write, is_invalid, how_many}
@@ -27,16 +27,16 @@ module _ (s : Settings) (w : ℕ) where
   -- a word of kind k by its value v: whether that is inside the store, and whether it is 0
   abbrev worked : ℕ → Bool → Bool → ℕ → Work
   worked k inside none v =
-      if eqb k 1 && inside then read v
-      else if eqb k 2 && inside then write v
-      else if eqb k 3 && inside then purge v
-      else if eqb k 4 && none then flush
-      else if eqb k 5 && none then tick
-      else if eqb k 6 && inside then pin v
-      else if eqb k 7 && inside then unpin v
+      when eqb k 1 && inside then read v
+      else when eqb k 2 && inside then write v
+      else when eqb k 3 && inside then purge v
+      else when eqb k 4 && none then flush
+      else when eqb k 5 && none then tick
+      else when eqb k 6 && inside then pin v
+      else when eqb k 7 && inside then unpin v
       else invalid
 
-  none : (a : Bool) (x y : Work) → (if a && false then x else y) ≡ y
+  none : (a : Bool) (x y : Work) → (when a && false then x else y) ≡ y
   none true x y = refl
   none false x y = refl
 

@@ -2,7 +2,7 @@
 use Rattle.std.specs.Prelude.{ℕ, ◌+◌, ◌-◌, ◌*◌, ◌≤◌, ◌<◌, ◌≡◌, Bool, not, List, [], length, take, T}
 use Rattle.std.proofs.Common.{arith, sym, ap, subst, subst₂, ◌∙◌}
 use Rattle.std.proofs.Math.Bool.{true, false}
-use Rattle.basics.specs.Basics.{if◌then◌else◌}
+use Rattle.basics.specs.Basics.{when◌then◌else◌}
 use Rattle.settings.specs.declared.Settings.{Settings}
 use Rattle.stack.specs.Counts.{chains}
 use Rattle.stack.specs.Recency.{Place, found, unused, replacing, asked, refuses, halves, settled, all_pinned, counts_pins}
@@ -72,7 +72,7 @@ module _ (m : Memory) (ready : Ready m) (b : ℕ) (written : Bool) {k e : ℕ} {
     bytes₁ = present whole s.b b store₁ q
 
     abbrev put : List ℕ
-    put = if written then incoming else bytes₁
+    put = when written then incoming else bytes₁
 
     -- the same by the front of data
     first_store : saved_all front s.b (leaving q) m.store ≡ store₁
@@ -90,7 +90,7 @@ module _ (m : Memory) (ready : Ready m) (b : ℕ) (written : Bool) {k e : ℕ} {
     put_length : length put ≡ s.b
     put_length = go written brings
       where
-        go : (w : Bool) → (T w → length incoming ≡ s.b) → length (if w then incoming else bytes₁) ≡ s.b
+        go : (w : Bool) → (T w → length incoming ≡ s.b) → length (when w then incoming else bytes₁) ≡ s.b
         go true h = h tt
         go false h = present_length s m.bytes ready.bytes_long b inside store₁ room_after q at_place
 
@@ -107,7 +107,7 @@ module _ (m : Memory) (ready : Ready m) (b : ℕ) (written : Bool) {k e : ℕ} {
         → (let next = asked b w (entry_for e q) q in settled (halves s q next) next ≡ residents_in d)
         → access_totals (totals_in m.directory) w q ≡ totals_in d
         → answering (chains s (counts_pins (residents_in m.directory))) (halves s q (asked b w (entry_for e q) q)) q ≡ answer
-        → Stepped w (if w then incoming else bytes₁) (if w then [] else bytes₁)
+        → Stepped w (when w then incoming else bytes₁) (when w then [] else bytes₁)
     unfolding entry_step step access filled view
     stepped true residents totals answers =
         λ i. record {
@@ -139,12 +139,12 @@ module _ (m : Memory) (ready : Ready m) (b : ℕ) (written : Bool) {k e : ℕ} {
 
     -- with that data buffer and that store then; a read gives these bytes
     abbrev CarriedTo : List ℕ → List ℕ → List ℕ → Type 0
-    CarriedTo buffer store bytes = Carried m (accessing written b) incoming (memory d buffer store) answer (if written then [] else bytes)
+    CarriedTo buffer store bytes = Carried m (accessing written b) incoming (memory d buffer store) answer (when written then [] else bytes)
 
     carried_out_lem : k ≤ 20 → CarriedTo (filled_at s.b e q put m.bytes) store₁ bytes₁
     carried_out_lem few =
         carry m ready d (filled_at s.b e q put m.bytes) store₁ accessed.kept in_bytes store_same
-        (accessing written b) incoming answer (if written then [] else bytes₁) e (picks written)
+        (accessing written b) incoming answer (when written then [] else bytes₁) e (picks written)
         (stepped written
         (ap (λ x. let next = asked b written x q in settled (halves s q next) next) accessed.entry_is ∙ sym accessed.residents)
         (sym accessed.totals)
@@ -155,13 +155,13 @@ module _ (m : Memory) (ready : Ready m) (b : ℕ) (written : Bool) {k e : ℕ} {
     -- with the bytes that the answer tells
     pub access_carried : k ≤ 20
         → Carried m (accessing written b) incoming
-        (memory d (bytes_after m b e answer (if written then incoming else bytes_read m b e answer)) (store_after m b e answer))
-        answer (if written then [] else bytes_read m b e answer)
+        (memory d (bytes_after m b e answer (when written then incoming else bytes_read m b e answer)) (store_after m b e answer))
+        answer (when written then [] else bytes_read m b e answer)
     access_carried few =
         let moves = told m b e q accessed.entry_is _ _ answer accessed.answer_is in
-        let moved : List ℕ = if written then incoming else bytes_read m b e answer in
+        let moved : List ℕ = when written then incoming else bytes_read m b e answer in
         subst (λ buffer. CarriedTo buffer (store_after m b e answer) (bytes_read m b e answer)) (moves.2 moved)
-        (subst₂ (λ st by. CarriedTo (filled_at s.b e q (if written then incoming else by) m.bytes) st by) moves.0 moves.1
+        (subst₂ (λ st by. CarriedTo (filled_at s.b e q (when written then incoming else by) m.bytes) st by) moves.0 moves.1
         (carried_out_lem few))
 
 -- ---- the victim: a block of the store

@@ -5,7 +5,7 @@ use Rattle.std.proofs.Common.{arith, sym, ap, ap₂, subst, ◌∙◌, length-ap
 use Rattle.std.proofs.Math.Option.{some}
 use Rattle.std.proofs.Math.ListN.{get_elem?}
 use Rattle.std.proofs.Math.Dec.{eqb_refl}
-use Rattle.basics.specs.Basics.{All, if◌then◌else◌, bit}
+use Rattle.basics.specs.Basics.{All, when◌then◌else◌, bit}
 use Rattle.basics.specs.Lists.{those}
 use Rattle.basics.specs.TestLaws.{if_yes}
 use Rattle.stack.specs.declared.Marks.{Marks}
@@ -18,14 +18,14 @@ use Rattle.promises.specs.DirectoryPromises.{marked_at}
 
 -- the word
 abbrev pub sweep : Bool → Work
-sweep ticks = if ticks then tick else flush
+sweep ticks = when ticks then tick else flush
 
 -- the marks of a resident that was passed, and whether it is written out
 abbrev pub changed : Bool → Marks → Marks
-changed ticks m = if ticks then ticked m else cleared m
+changed ticks m = when ticks then ticked m else cleared m
 
 abbrev pub chosen : Bool → Marks → Bool
-chosen ticks m = if ticks then due m else m.modified
+chosen ticks m = when ticks then due m else m.modified
 
 -- the residents once the first p were passed, and those of a list that are written out
 abbrev pub passed : Bool → ℕ → List (Resident ℕ) → List (Resident ℕ)
@@ -66,11 +66,11 @@ changed_none ticks m h e = go ticks
     same = λ i. record { modified = sym e i; seen = sym (unseen m.seen h) i; pinned = m.pinned }
 
     go : (ticks : Bool) → changed ticks m ≡ m
-    go true = ap (λ a. if a && m.seen then cleared m else record { modified = a; seen = a; pinned = m.pinned }) e ∙ same
+    go true = ap (λ a. when a && m.seen then cleared m else record { modified = a; seen = a; pinned = m.pinned }) e ∙ same
     go false = same
 
 pub changed_seen : (ticks : Bool) (m : Marks) → m.modified ≡ true → chosen ticks m ≡ false → saw_tick m ≡ changed ticks m
-changed_seen true m set e = ap (λ a. if a then cleared m else saw_tick m) (sym e)
+changed_seen true m set e = ap (λ a. when a then cleared m else saw_tick m) (sym e)
 changed_seen false m set e = let z : ◌≡◌ {A = ℕ} 0 1 = cc in absurd (omega arith)
 
 -- ---- the residents
@@ -122,21 +122,21 @@ passed_marked ticks change (y ∷ l) (suc p) x a at e = ap₂ ◌∷◌ earlier 
     other : x.held ≢ y.held
     other = all_found (λ w. w.held ≢ y.held) l p x a.0 at
 
-    earlier : (if eqb y.held x.held then remarked change z else z) ≡ z
-    earlier = ap (λ t. if t then remarked change z else z) (ne_eqb y.held x.held (λ h. other (sym h)))
+    earlier : (when eqb y.held x.held then remarked change z else z) ≡ z
+    earlier = ap (λ t. when t then remarked change z else z) (ne_eqb y.held x.held (λ h. other (sym h)))
 
 -- ---- those written out
 
 gone_next : (c : Resident ℕ → Bool) (l : List (Resident ℕ)) (p : ℕ) (x : Resident ℕ) → get_elem? l p ≡ some x
-    → those c (take (suc p) l) ≡ those c (take p l) ++ (if c x then x ∷ [] else [])
+    → those c (take (suc p) l) ≡ those c (take p l) ++ (when c x then x ∷ [] else [])
 unfolding those
 gone_next c [] p x at = let z : ◌≡◌ {A = ℕ} 0 1 = cc in absurd (omega arith)
-gone_next c (y ∷ l) zero x at = let same : y ≡ x = cc in ap (λ z. if c z then z ∷ [] else []) same
+gone_next c (y ∷ l) zero x at = let same : y ≡ x = cc in ap (λ z. when c z then z ∷ [] else []) same
 gone_next c (y ∷ l) (suc p) x at = go (c y) (gone_next c l p x at)
   where
-    go : (b : Bool) → those c (take (suc p) l) ≡ those c (take p l) ++ (if c x then x ∷ [] else [])
-        → (if b then y ∷ those c (take (suc p) l) else those c (take (suc p) l))
-        ≡ (if b then y ∷ those c (take p l) else those c (take p l)) ++ (if c x then x ∷ [] else [])
+    go : (b : Bool) → those c (take (suc p) l) ≡ those c (take p l) ++ (when c x then x ∷ [] else [])
+        → (when b then y ∷ those c (take (suc p) l) else those c (take (suc p) l))
+        ≡ (when b then y ∷ those c (take p l) else those c (take p l)) ++ (when c x then x ∷ [] else [])
     go true h = ap (λ t. y ∷ t) h
     go false h = h
 
@@ -148,7 +148,7 @@ saved_append f B (x ∷ l) m store = saved_append f B l m (saved f B x store)
 
 module _ (ticks : Bool) (l : List (Resident ℕ)) (p : ℕ) (x : Resident ℕ) (at : get_elem? l p ≡ some x) where
   abbrev one : List (Resident ℕ)
-  one = if chosen ticks x.marks then x ∷ [] else []
+  one = when chosen ticks x.marks then x ∷ [] else []
 
   next : gone ticks (take (suc p) l) ≡ gone ticks (take p l) ++ one
   next = gone_next (λ y. chosen ticks y.marks) l p x at
@@ -157,11 +157,11 @@ module _ (ticks : Bool) (l : List (Resident ℕ)) (p : ℕ) (x : Resident ℕ) (
   count_next =
       ap length next ∙ length-append (gone ticks (take p l)) one ∙ ap (λ n. length (gone ticks (take p l)) + n) (go (chosen ticks x.marks))
     where
-      go : (b : Bool) → length (if b then x ∷ [] else []) ≡ bit b
+      go : (b : Bool) → length (when b then x ∷ [] else []) ≡ bit b
       go true = refl
       go false = refl
 
   pub saved_next : (f : ℕ → List ℕ) (B : ℕ) (store : List ℕ)
       → saved_all f B (gone ticks (take (suc p) l)) store
-      ≡ saved_all f B (if chosen ticks x.marks then x ∷ [] else []) (saved_all f B (gone ticks (take p l)) store)
+      ≡ saved_all f B (when chosen ticks x.marks then x ∷ [] else []) (saved_all f B (gone ticks (take p l)) store)
   saved_next f B store = ap (λ m. saved_all f B m store) next ∙ saved_append f B (gone ticks (take p l)) one store

@@ -9,7 +9,7 @@ use Rattle.std.proofs.Math.Option.{some}
 use Rattle.std.proofs.Math.ListN.{take, get_elem?}
 use Rattle.std.proofs.Math.Dec.{T}
 use Rattle.basics.specs.AllLaws.{all_left, all_those}
-use Rattle.basics.specs.Basics.{All, if◌then◌else◌, bit, block_at, put_block}
+use Rattle.basics.specs.Basics.{All, when◌then◌else◌, bit, block_at, put_block}
 use Rattle.basics.specs.Lists.{those}
 use Rattle.words.specs.Links.{links_changed}
 use Rattle.words.specs.LinkLaws.{changed_same, changed_tri}
@@ -100,7 +100,7 @@ module _ (ticks : Bool) (start : Memory) (ready : Ready start) where
       unfolding saved_all
       store_kept stays =
           so_far.store_is
-          ∙ ap (λ b. saved_all f s.b (if b then x ∷ [] else []) (saved_all f s.b (gone ticks (take p l)) start.store)) (sym stays)
+          ∙ ap (λ b. saved_all f s.b (when b then x ∷ [] else []) (saved_all f s.b (gone ticks (take p l)) start.store)) (sym stays)
           ∙ sym (saved_next ticks l p x here f s.b start.store)
 
       -- a resident whose marks change as they should, with so many blocks out
@@ -153,8 +153,8 @@ module _ (ticks : Bool) (start : Memory) (ready : Ready start) where
           flush_one clean (changed_chosen ticks x.marks out)
           (let e : bit (chosen ticks x.marks) ≡ 1 = ap bit out in let h = so_far.count in omega (arith, count_next ticks l p x here))
           (ap₂ (λ by st. put_block s.b x.block (block_at s.b (x.held - 1) by) st) so_far.bytes_are so_far.store_is
-          ∙ ap (λ u. if u then put_block s.b x.block (f x.held) before else before) (sym (chosen_set ticks x.marks out))
-          ∙ ap (λ b. saved_all f s.b (if b then x ∷ [] else []) before) (sym out)
+          ∙ ap (λ u. when u then put_block s.b x.block (f x.held) before else before) (sym (chosen_set ticks x.marks out))
+          ∙ ap (λ b. saved_all f s.b (when b then x ∷ [] else []) before) (sym out)
           ∙ sym (saved_next ticks l p x here f s.b start.store))
         where
           before : List ℕ

@@ -4,7 +4,7 @@ use Rattle.std.proofs.Common.{arith, ◌∙◌}
 use Rattle.std.proofs.Math.Path.{refl, ap}
 use mathlib.Core.List.{List, [], ◌∷◌}
 use Rattle.std.proofs.Math.ListN.{length-replicate}
-use Rattle.basics.specs.Basics.{All, if◌then◌else◌, put_block}
+use Rattle.basics.specs.Basics.{All, when◌then◌else◌, put_block}
 use Rattle.settings.specs.declared.Settings.{Settings}
 use Rattle.stack.proofs.BufferLaws.{block_ends, block_front, length_block_at, length_put_block}
 use Rattle.stack.specs.Recency.{Resident, Place, found, unused, replacing, all_pinned}
@@ -74,7 +74,7 @@ module _ (s : Settings) (bytes : List ℕ) (long : s.n * s.b ≤ length bytes) w
   saved_front [] a store = refl
   saved_front (x ∷ l) a store =
       let same = entry_front x.held a.0.least a.0.most in
-      saved_front l a.1 _ ∙ ap (λ by. saved_all whole B l (if x.marks.modified then put_block B x.block by store else store)) same
+      saved_front l a.1 _ ∙ ap (λ by. saved_all whole B l (when x.marks.modified then put_block B x.block by store else store)) same
 
   -- ---- the bytes of a block: its resident's, or the store's
 

@@ -6,7 +6,7 @@ use Rattle.std.proofs.Math.Bool.{true, false}
 use mathlib.Core.List.{List, [], ◌∷◌, map}
 use Rattle.std.proofs.Math.Option.{Option, none, some}
 use Rattle.std.proofs.Math.ListN.{take, get_elem?}
-use Rattle.basics.specs.Basics.{All, if◌then◌else◌}
+use Rattle.basics.specs.Basics.{All, when◌then◌else◌}
 use Rattle.settings.specs.declared.Settings.{Settings}
 use Rattle.stack.specs.Recency.{Resident, marked, pinned_as, position, pin_at, lookup, remarked}
 use Rattle.stack.specs.Stack.{Totals, Work, pin, unpin, pinned, absent, Step, pinning, step}
@@ -24,17 +24,17 @@ use Rattle.cache_steps.specs.MovedLaws.{unmoved}
 
 -- the word
 abbrev pub pin_work : Bool → ℕ → Work
-pin_work on b = if on then pin b else unpin b
+pin_work on b = when on then pin b else unpin b
 
 -- ---- the resident of a block is the one of its entry, as blocks and entries differ
 
 module _ (on : Bool) (b e : ℕ) where
   -- one resident, by the two tests
   same_pin : (y : Resident ℕ) (c : Bool) → eqb y.block b ≡ c → eqb y.held e ≡ c
-      → pin_at on b y ≡ (if eqb y.held e then remarked (pinned_as on) y else y)
+      → pin_at on b y ≡ (when eqb y.held e then remarked (pinned_as on) y else y)
   same_pin y c p q = rw (p, q) (go c)
     where
-      go : (t : Bool) → marked (if t then pinned_as on y.marks else y.marks) y ≡ (if t then remarked (pinned_as on) y else y)
+      go : (t : Bool) → marked (when t then pinned_as on y.marks else y.marks) y ≡ (when t then remarked (pinned_as on) y else y)
       go true = refl
       go false = refl
 

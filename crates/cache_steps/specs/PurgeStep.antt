@@ -6,7 +6,7 @@ use Rattle.std.proofs.Math.Bool.{false}
 use mathlib.Core.List.{List, []}
 use Rattle.std.proofs.Math.Option.{Option, none, some}
 use Rattle.std.proofs.Math.ListN.{take}
-use Rattle.basics.specs.Basics.{if◌then◌else◌}
+use Rattle.basics.specs.Basics.{when◌then◌else◌}
 use Rattle.settings.specs.declared.Settings.{Settings}
 use Rattle.stack.specs.Recency.{Resident, lookup, removed}
 use Rattle.stack.specs.Stack.{purge, purged, absent, Step, purging, step, Stack, purge_refused, rearranged, idle}
@@ -38,9 +38,9 @@ module _ (m : Memory) (ready : Ready m) (b : ℕ) (incoming : List ℕ) where
 
   -- by the pinned mark of the resident found
   by_pin : {x : Resident ℕ} (t : Bool) → lookup b (residents_in m.directory) ≡ some x → x.marks.pinned ≡ t
-      → entry_step (cache_of m) (purge b, 0) incoming ≡ told (if t then idle (cache_of m).stack purge_refused else goes x)
+      → entry_step (cache_of m) (purge b, 0) incoming ≡ told (when t then idle (cache_of m).stack purge_refused else goes x)
   unfolding purging view
-  by_pin {x} t at mark = looked_up at ∙ ap (λ c. told (if c then idle (cache_of m).stack purge_refused else goes x)) mark
+  by_pin {x} t at mark = looked_up at ∙ ap (λ c. told (when c then idle (cache_of m).stack purge_refused else goes x)) mark
 
   pub purge_carried : {k : ℕ} {modified : Bool} {d : List ℕ} {x : Resident ℕ} → Purged k m.directory b d
       → lookup b (residents_in m.directory) ≡ some x → x.marks.modified ≡ modified → x.marks.pinned ≡ false → k ≤ 20

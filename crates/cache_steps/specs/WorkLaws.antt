@@ -7,7 +7,7 @@ use Rattle.std.proofs.Math.Bool.{true, false}
 use Rattle.std.proofs.Math.Dec.{eqb}
 use borrow.Author.Tests.{eq-eqb, ne_eqb, eqb-true}
 use Rattle.std.proofs.Math.Facts.{ltb_yes}
-use Rattle.basics.specs.Basics.{if◌then◌else◌}
+use Rattle.basics.specs.Basics.{when◌then◌else◌}
 use Rattle.settings.specs.declared.Settings.{Settings}
 use Rattle.stack.specs.Stack.{Work, read, write, purge, flush, tick, invalid, pin, unpin}
 use Rattle.stack.specs.Batch.{work, is_invalid}
@@ -15,7 +15,7 @@ use Rattle.cache_steps.specs.FlushLists.{sweep}
 use Rattle.cache_steps.specs.PinStep.{pin_work}
 
 -- a word that is x where its test passes, else invalid
-valid_is : (x : Work) (t : Bool) → is_invalid (if t then x else invalid) ≡ 0 → ((if t then x else invalid) ≡ x) × T t
+valid_is : (x : Work) (t : Bool) → is_invalid (when t then x else invalid) ≡ 0 → ((when t then x else invalid) ≡ x) × T t
 valid_is x true e = (refl, tt)
 valid_is x false e = absurd (omega arith)
 
@@ -50,7 +50,7 @@ module _ (s : Settings) (w : ℕ) where
       v = w % 2 ^ 28
 
       left : Work
-      left = if eqb (w / 2 ^ 28) 6 && ltb v s.m then pin v else if eqb (w / 2 ^ 28) 7 && ltb v s.m then unpin v else invalid
+      left = when eqb (w / 2 ^ 28) 6 && ltb v s.m then pin v else when eqb (w / 2 ^ 28) 7 && ltb v s.m then unpin v else invalid
 
       go : Dec (w / 2 ^ 28 ≡ 6) → Dec (w / 2 ^ 28 ≡ 7) → is_invalid left ≡ 0 → (left ≡ pin_work (eqb (w / 2 ^ 28) 6) v) × (v < s.m)
       go (yes q) r =
@@ -75,8 +75,8 @@ module _ (s : Settings) (w : ℕ) where
       (go (ℕ_discrete (w / 2 ^ 28) 4) (eqb (w / 2 ^ 28) 5) (eqb (w % 2 ^ 28) 0) refl)
     where
       go : Dec (w / 2 ^ 28 ≡ 4) → (k v : Bool) → eqb (w / 2 ^ 28) 5 ≡ k
-          → is_invalid (if eqb (w / 2 ^ 28) 4 && v then flush else if k && v then tick else invalid) ≡ 0
-          → (if eqb (w / 2 ^ 28) 4 && v then flush else if k && v then tick else invalid) ≡ sweep k
+          → is_invalid (when eqb (w / 2 ^ 28) 4 && v then flush else when k && v then tick else invalid) ≡ 0
+          → (when eqb (w / 2 ^ 28) 4 && v then flush else when k && v then tick else invalid) ≡ sweep k
       go (yes q) true v is = absurd (omega (arith, q, eqb-true (w / 2 ^ 28) 5 is))
       go (yes q) false v is = rw (eq-eqb (w / 2 ^ 28) 4 q) (λ e. (valid_is flush v e).0)
       go (no q) true v is = rw (ne_eqb (w / 2 ^ 28) 4 q) (λ e. (valid_is tick v e).0)

@@ -9,7 +9,7 @@ use Rattle.std.proofs.Math.Decide.{ℕ_discrete}
 use Rattle.std.proofs.Math.ListN.{length}
 use Rattle.std.proofs.Math.Dec.{eqb}
 use borrow.Author.Tests.{eq-eqb, ne_eqb}
-use Rattle.basics.specs.Basics.{if◌then◌else◌}
+use Rattle.basics.specs.Basics.{when◌then◌else◌}
 use Rattle.links.specs.Off.{Off}
 use Rattle.links.specs.Run.{Run, Back}
 use Rattle.words.specs.Words.{val}
@@ -47,7 +47,7 @@ module _ (w : List ℕ) where
   along_off j zero e = tt
   along_off j (suc k) e = go (ℕ_discrete e 0) (along_off j k (field w j e))
     where
-      go : Dec (e ≡ 0) → Off 0 (along w j k (field w j e)) → Off 0 (if eqb e 0 then [] else e ∷ along w j k (field w j e))
+      go : Dec (e ≡ 0) → Off 0 (along w j k (field w j e)) → Off 0 (when eqb e 0 then [] else e ∷ along w j k (field w j e))
       go (yes z) o = rw (eq-eqb e 0 z) tt
       go (no z) o = rw (ne_eqb e 0 z) (λ c. z (sym c), o)
 
@@ -57,8 +57,8 @@ module _ (w : List ℕ) where
   along_is j (suc k) e h = go (ℕ_discrete e 0) (along_is j k (field w j e)) h
     where
       go : Dec (e ≡ 0) → (length (along w j k (field w j e)) < k → Run (fw j) (field w j e) (along w j k (field w j e)) 0)
-          → length (if eqb e 0 then [] else e ∷ along w j k (field w j e)) < suc k
-          → Run (fw j) e (if eqb e 0 then [] else e ∷ along w j k (field w j e)) 0
+          → length (when eqb e 0 then [] else e ∷ along w j k (field w j e)) < suc k
+          → Run (fw j) e (when eqb e 0 then [] else e ∷ along w j k (field w j e)) 0
       go (yes z) r h = rw (eq-eqb e 0 z) z
       go (no z) r h =
           let h' : suc (length (along w j k (field w j e))) < suc k = rw (ne_eqb e 0 z) at h in

@@ -12,7 +12,7 @@ use Rattle.std.proofs.Math.Decide.{ℕ_discrete}
 use Rattle.std.proofs.lemmas.List.{length-replicate}
 use Rattle.std.proofs.Math.Dec.{T, eqb→eq}
 use Rattle.std.proofs.Math.Facts.{yes_eqb, yes_and, and_yes, or_yes, leb_yes, yes_leb}
-use Rattle.basics.specs.Basics.{if◌then◌else◌, pick, All}
+use Rattle.basics.specs.Basics.{when◌then◌else◌, pick, All}
 use Rattle.basics.specs.Lists.{all, same, those, counting}
 use Rattle.basics.specs.ListLaws.{all_yes, yes_all, same_is, is_same, counting_all, counting_at}
 use Rattle.links.specs.Off.{Off}
@@ -263,7 +263,7 @@ module _ (w : List ℕ) where
   those_sift g h [] o e = refl
   those_sift g h (x ∷ xs) o e = rw (e x (λ c. o.0 (sym c)), those_sift g h xs o.1 e) (go (h x))
     where
-      go : (t : Bool) → (if t then x ∷ sift h xs else sift h xs) ≡ put t x (sift h xs)
+      go : (t : Bool) → (when t then x ∷ sift h xs else sift h xs) ≡ put t x (sift h xs)
       go true = refl
       go false = refl
 

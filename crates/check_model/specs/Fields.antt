@@ -12,7 +12,7 @@ use Rattle.std.proofs.Math.ListN.{get_or-eq_default}
 use Rattle.std.proofs.Math.Dec.{leb, eqb, eqb→eq}
 use borrow.Author.Tests.{lt-ltb, le-ltb, le-leb, lt-leb, eq-eqb}
 use Rattle.std.proofs.Math.Facts.{yes_eqb, yes_and, and_yes, ltb_yes, ltb_no, leb_yes, yes_ltb, no_ltb, yes_leb}
-use Rattle.basics.specs.Basics.{All, if◌then◌else◌, pick, total, within}
+use Rattle.basics.specs.Basics.{All, when◌then◌else◌, pick, total, within}
 use Rattle.basics.specs.Lists.{all, distinct}
 use Rattle.basics.specs.ListLaws.{all_yes, yes_all}
 use Rattle.basics.specs.AllLaws.{all_map, all_both}
@@ -93,7 +93,7 @@ module _ (w : List ℕ) where
   unfolding settings_in section_at
   section_is p = ap (pick (ltb p (val w NEW-BLOCKS)) 0) (inner (val w CACHE-BLOCKS - val w OLD-BLOCKS))
     where
-      inner : (mid : ℕ) → ◌≡◌ {A = ℕ} (if leb mid p then 2 else 1) (pick (ltb p mid) 1 2)
+      inner : (mid : ℕ) → ◌≡◌ {A = ℕ} (when leb mid p then 2 else 1) (pick (ltb p mid) 1 2)
       inner mid = ⊎_elim (λ h. rw (lt-leb mid p h, lt-ltb p mid h)) (λ h. rw (le-leb mid p h, le-ltb p mid h)) (less p mid)
 
   pub sections_sound : (xs : List ℕ) (p : ℕ) → Off 0 xs → Sections (fw w) (val w NEW-BLOCKS) (val w CACHE-BLOCKS - val w OLD-BLOCKS) p xs

@@ -7,7 +7,7 @@ use Rattle.std.proofs.lemmas.List.{length-map}
 use Rattle.std.specs.Int.Signed.{mag}
 use Rattle.std.proofs.Math.Dec.{eqb, ltb}
 use Rattle.std.proofs.Math.Facts.{and_yes}
-use Rattle.basics.specs.Basics.{if◌then◌else◌}
+use Rattle.basics.specs.Basics.{when◌then◌else◌}
 use Rattle.basics.specs.Lists.{all}
 use Rattle.settings.specs.declared.Settings.{Settings}
 use Rattle.settings.specs.Numbers.{settings_number}
@@ -28,7 +28,7 @@ use Rattle.compare.specs.Reading.{Trace}
 -- none of the other kinds is a read
 other_kinds : (v : ℕ) (b c d e f g : Bool)
     → is_read
-    (if b then write v else if c then purge v else if d then flush else if e then tick else if f then pin v else if g then unpin v else invalid)
+    (when b then write v else when c then purge v else when d then flush else when e then tick else when f then pin v else when g then unpin v else invalid)
     ≡ 0
 other_kinds v true c d e f g = refl
 other_kinds v false true d e f g = refl
@@ -95,7 +95,7 @@ module _ (s : Settings) (words : List ℕ) where
       (λ f. apart (settings_number s) 0 f (rw f at e))
     where
       go : eqb (settings_number s) 0 ≡ true → (a : Bool) → ltb most_reads (length words) ≡ a → (b : Bool) → all (is_trace_read s) words ≡ b
-          → ◌≡◌ {A = ℕ} (if (a || not b) then 14 else 0) 0 → Accepted
+          → ◌≡◌ {A = ℕ} (when (a || not b) then 14 else 0) 0 → Accepted
       go f true la b lb z = absurd (omega (arith, z))
       go f false la false lb z = absurd (omega (arith, z))
       go f false la true lb z =

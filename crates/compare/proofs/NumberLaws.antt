@@ -13,7 +13,7 @@ use borrow.Author.Tests.{ne_eqb, eq-eqb, lt-ltb, le-ltb}
 use mir.Syntax.{w32}
 use mir.Val.{SFits, to_z, of_z}
 use mir.ValLaws.{to_z-of_z}
-use Rattle.basics.specs.Basics.{if◌then◌else◌}
+use Rattle.basics.specs.Basics.{when◌then◌else◌}
 use Rattle.basics.specs.Lists.{all}
 use Rattle.settings.specs.declared.Settings.{Settings}
 use Rattle.settings.specs.Numbers.{settings_number}
@@ -86,7 +86,7 @@ module _ (s : Settings) (words : List ℕ) where
   unfolding compare_number
   number_refused n is z = is ∙ sym (rw (ne_eqb (settings_number s) 0 (λ e. z (is ∙ e))) refl)
 
-  pub number_by_trace : (n : ℕ) → n ≡ settings_number s → n ≡ 0 → (b : Bool) → b ≡ is_no_trace s words → (if b then 14 else 0) ≡ compare_number s words
+  pub number_by_trace : (n : ℕ) → n ≡ settings_number s → n ≡ 0 → (b : Bool) → b ≡ is_no_trace s words → (when b then 14 else 0) ≡ compare_number s words
   unfolding compare_number
   number_by_trace n is z b e = sym (rw (eq-eqb (settings_number s) 0 (sym is ∙ z), ← e) refl)
 

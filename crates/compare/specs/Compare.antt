@@ -2,7 +2,7 @@
 -- is proved of them. Assumes nothing.
 use Rattle.std.specs.Prelude.{ℕ, ◌+◌, ◌-◌, ◌≤◌, ◌≡◌, ◌≢◌, Bool, ◌||◌, not, List, [], map, length, pos, ◌-ℤ◌, eqb, ltb}
 use Rattle.std.specs.Int.Signed.{mag}
-use Rattle.basics.specs.Basics.{if◌then◌else◌}
+use Rattle.basics.specs.Basics.{when◌then◌else◌}
 use Rattle.basics.specs.Lists.{all}
 use Rattle.settings.specs.declared.Settings.{Settings}
 use Rattle.settings.specs.Numbers.{settings_number}
@@ -30,7 +30,7 @@ unfolding settings_number is_no_trace
 compare_number s words =
     let refused = settings_number s in
     let untraced = is_no_trace s words in
-    if eqb refused 0 then (if untraced then 14 else 0) else refused
+    when eqb refused 0 then (when untraced then 14 else 0) else refused
 
 -- ---- the figures
 
@@ -38,7 +38,7 @@ compare_number s words =
 -- improvement is given and both are 0.
 unfoldable pub figures : ℕ → ℕ → ℕ → Compared
 figures l c o =
-    if eqb l o
+    when eqb l o
     then record { number = 0; lru = l; chosen = c; opt = o; gain = pos 0; possible = 0 }
     else record { number = 0; lru = l; chosen = c; opt = o; gain = pos l -ℤ pos c; possible = l - o }
 
@@ -52,7 +52,7 @@ compared s words =
     let n = compare_number s words in
     let t = trace_of words in
     let given = figures (ins_of (lru s) t) (ins_of s t) (opt_ins s.n t) in
-    if eqb n 0 then given else declined n
+    when eqb n 0 then given else declined n
 
 -- ---- what is proved of them
 

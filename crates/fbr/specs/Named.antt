@@ -1,13 +1,13 @@
 -- Named settings as words: what `fbr_named` writes (SCOPE, "The library's own calls"). Assumes nothing.
 use Rattle.std.specs.Prelude.{ℕ, Bool, ◌&&◌, List, [], ◌∷◌, length, leb, eqb}
-use Rattle.basics.specs.Basics.{if◌then◌else◌, pick}
+use Rattle.basics.specs.Basics.{when◌then◌else◌, pick}
 use Rattle.settings.specs.declared.Settings.{Settings}
 use Rattle.settings.specs.Named.{UNIX, C51, CUST11}
 use Rattle.promises.specs.Promises.{over}
 
 -- 0 UNIX, 1 C51, 2 CUST11
 unfoldable pub settings_named : ℕ → ℕ → ℕ → ℕ → Settings
-settings_named which n b m = if eqb which 0 then UNIX n b m else if eqb which 1 then C51 n b m else CUST11 n b m
+settings_named which n b m = when eqb which 0 then UNIX n b m else when eqb which 1 then C51 n b m else CUST11 n b m
 
 -- in the order of the directory's header
 abbrev pub settings_words : Settings → List ℕ

@@ -1,6 +1,6 @@
 -- What `fbr_totals` writes (SCOPE, "The library's own calls"): the totals of a sound directory, or four 0s. Assumes nothing.
 use Rattle.std.specs.Prelude.{ℕ, List, [], ◌∷◌}
-use Rattle.basics.specs.Basics.{if◌then◌else◌, pick}
+use Rattle.basics.specs.Basics.{when◌then◌else◌, pick}
 use Rattle.stack.specs.Stack.{Totals}
 use Rattle.layout.specs.Sound.{sound, totals_in}
 use Rattle.fbr.specs.Fronts.{figures_number}
@@ -13,7 +13,7 @@ abbrev pub no_totals : Totals
 no_totals = record { reads = 0; writes = 0; ins = 0; outs = 0 }
 
 abbrev pub totals_figures : List ℕ → List ℕ
-totals_figures words = totals_words (if sound words then totals_in words else no_totals)
+totals_figures words = totals_words (when sound words then totals_in words else no_totals)
 
 -- 10, 6 or 0
 abbrev pub totals_number : List ℕ → List ℕ → ℕ

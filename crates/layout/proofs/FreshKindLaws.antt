@@ -2,7 +2,7 @@
 use Rattle.std.specs.Prelude.{ℕ, zero, suc, ◌+◌, ◌*◌, ◌/◌, ◌^◌, ◌≤◌, ◌<◌, ◌≡◌, refl, Bool, true, false, List, [], ◌∷◌, ◌++◌, map, length, replicate, eqb}
 use Rattle.std.proofs.Common.{arith, ap, ap₂, ◌∙◌, length-append}
 use Rattle.std.proofs.lemmas.List.{length-replicate}
-use Rattle.basics.specs.Basics.{if◌then◌else◌}
+use Rattle.basics.specs.Basics.{when◌then◌else◌}
 use Rattle.words.specs.Words.{number, link}
 use Rattle.settings.specs.declared.Settings.{Settings}
 use Rattle.settings.specs.NumbersLaws.{LegalSettings}
@@ -33,7 +33,7 @@ kinds_unused e zero h = refl
 kinds_unused e (suc n) h =
     ap₂ (λ k t. 1 ∷ 1 ∷ 1 ∷ 1 ∷ 2 ∷ k ∷ 2 ∷ 2 ∷ 2 ∷ t) (kind_link (next_of e n) (small (eqb n 0))) (kinds_unused (e + 1) n (omega arith))
   where
-    small : (b : Bool) → (if b then 0 else e + 1) < 2 ^ 28
+    small : (b : Bool) → (when b then 0 else e + 1) < 2 ^ 28
     small true = omega arith
     small false = omega arith
 

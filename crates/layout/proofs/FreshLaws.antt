@@ -7,7 +7,7 @@ use mathlib.Core.List.{List, [], ◌++◌, map}
 use Rattle.std.proofs.Math.ListN.{length}
 use Rattle.std.proofs.Math.Dec.{T}
 use Rattle.std.proofs.Math.Facts.{yes_and, yes_eqb, yes_leb}
-use Rattle.basics.specs.Basics.{if◌then◌else◌, within}
+use Rattle.basics.specs.Basics.{when◌then◌else◌, within}
 use Rattle.basics.specs.ListLaws.{yes_every, every_append, is_same, length_counting, all_counting, distinct_counting}
 use Rattle.basics.specs.Lists.{every, all, same, distinct, same_members, those, counting}
 use Rattle.words.specs.Words.{val}
@@ -148,7 +148,7 @@ module _ (s : Settings) (ok : settings_number s ≡ 0) (rest : List ℕ) where
   abbrev legal : LegalSettings s
   legal = legal_settings s ok
 
-  gate : (a b c : Bool) → T a → T b → T c → T (if a then (if b then c else false) else false)
+  gate : (a b c : Bool) → T a → T b → T c → T (when a then (when b then c else false) else false)
   gate true true true t u v = tt
   gate true true false t u v = v
   gate true false c t u v = u

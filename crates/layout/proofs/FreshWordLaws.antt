@@ -12,7 +12,7 @@ use Rattle.std.proofs.Math.Facts.{no_eqb}
 use Rattle.std.proofs.Math.Numerals.{add-one}
 use Rattle.std.proofs.Math.Dec.{eqb-suc-zero}
 use Rattle.basics.specs.TestLaws.{if_no}
-use Rattle.basics.specs.Basics.{if◌then◌else◌}
+use Rattle.basics.specs.Basics.{when◌then◌else◌}
 use Rattle.basics.specs.Lists.{counting}
 use Rattle.words.specs.Words.{number, link, val}
 use Rattle.settings.specs.declared.Settings.{Settings}
@@ -30,7 +30,7 @@ value_link v h = omega arith
 
 -- the link out of an unused entry that has m after it
 abbrev pub next_of : ℕ → ℕ → ℕ
-next_of e m = if eqb m 0 then 0 else e + 1
+next_of e m = when eqb m 0 then 0 else e + 1
 
 pub length_unused : (e n : ℕ) → length (unused_from e n) ≡ 9 * n
 unfolding unused_from

@@ -8,7 +8,7 @@ use Rattle.std.proofs.Math.ListN.{length, length-append, length-map, length-take
 use Rattle.std.proofs.Math.Dec.{T, ltb}
 use Rattle.std.proofs.Math.Facts.{and_yes, or_no, leb_yes, ltb_yes, eqb_yes, eqb_no}
 use Rattle.basics.specs.AllLaws.{all_map, all_image, all_left, all_right}
-use Rattle.basics.specs.Basics.{All, if◌then◌else◌, within, member, bit, total}
+use Rattle.basics.specs.Basics.{All, when◌then◌else◌, within, member, bit, total}
 use Rattle.basics.specs.ListLaws.{every_yes, all_yes, same_is}
 use Rattle.basics.specs.Lists.{every, distinct}
 use Rattle.settings.specs.declared.Settings.{Settings}
@@ -40,7 +40,7 @@ module _ (ws : List ℕ) (h : T (sound ws)) where
   abbrev s : Settings
   s = settings_in ws
 
-  gate : (b c d : Bool) → T (if b then (if c then d else false) else false) → T b × T d
+  gate : (b c d : Bool) → T (when b then (when c then d else false) else false) → T b × T d
   gate true true d t = (tt, t)
   gate true false d t = absurd t
   gate false c d t = absurd t
@@ -64,7 +64,7 @@ module _ (ws : List ℕ) (h : T (sound ws)) where
       let lent = length-map (take (directory_length s) ws) (λ w. w / 2 ^ 28) in
       omega (arith, lent, length-take (directory_length s) ws, length-map (fresh_words s) (λ w. w / 2 ^ 28), length_fresh s)
     where
-      second : (b c d : Bool) → T (if b then (if c then d else false) else false) → T c
+      second : (b c d : Bool) → T (when b then (when c then d else false) else false) → T c
       second true true d t = tt
       second true false d t = absurd t
       second false c d t = absurd t

@@ -1,6 +1,6 @@
 -- The kinds of the directory's words (SCOPE, "The directory"), and the words of a fresh one. Assumes nothing.
 use Rattle.std.specs.Prelude.{ℕ, zero, suc, ◌+◌, ◌*◌, List, [], ◌∷◌, ◌++◌, map, replicate, ltb, eqb}
-use Rattle.basics.specs.Basics.{if◌then◌else◌}
+use Rattle.basics.specs.Basics.{when◌then◌else◌}
 use Rattle.words.specs.Words.{number, link}
 use Rattle.settings.specs.declared.Settings.{Settings}
 use Rattle.settings.specs.Buckets.{buckets, directory_length}
@@ -27,7 +27,7 @@ unused_entry next = number 0 ∷ number 0 ∷ number 0 ∷ number 0 ∷ link 0 �
 -- n unused entries from e on, each linked to the next, the last to none
 unfoldable pub unused_from : ℕ → ℕ → List ℕ
 unused_from e zero = []
-unused_from e (suc n) = unused_entry (if eqb n 0 then 0 else e + 1) ++ unused_from (e + 1) n
+unused_from e (suc n) = unused_entry (when eqb n 0 then 0 else e + 1) ++ unused_from (e + 1) n
 
 unfoldable pub fresh_header : Settings → List ℕ
 fresh_header s =
@@ -44,4 +44,4 @@ unfolding settings_number buckets
 fresh_number s n =
     let refused = settings_number s in
     let short = ltb n (directory_length s) in
-    if eqb refused 0 then (if short then 5 else 0) else refused
+    when eqb refused 0 then (when short then 5 else 0) else refused

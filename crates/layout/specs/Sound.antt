@@ -5,7 +5,7 @@ use Rattle.std.specs.Prelude.{Bool, ◌&&◌, ◌||◌, length, take, get_or}
 use Rattle.std.proofs.Math.Bool.{true, false}
 use mathlib.Core.List.{List, [], ◌∷◌, ◌++◌, map, reverse}
 use Rattle.std.proofs.Math.Dec.{leb, ltb, eqb}
-use Rattle.basics.specs.Basics.{if◌then◌else◌, bit, within, total}
+use Rattle.basics.specs.Basics.{when◌then◌else◌, bit, within, total}
 use Rattle.basics.specs.Lists.{every, all, same, distinct, same_members, those, counting}
 use Rattle.words.specs.Words.{val}
 use Rattle.settings.specs.declared.Settings.{Settings}
@@ -52,7 +52,7 @@ module _ (ws : List ℕ) where
   unfoldable pub along : ℕ → ℕ → ℕ → List ℕ
   unfolding field val
   along j zero e = []
-  along j (suc more) e = let rest = along j more (field j e) in if eqb e 0 then [] else e ∷ rest
+  along j (suc more) e = let rest = along j more (field j e) in when eqb e 0 then [] else e ∷ rest
 
   -- (One more than N where they go round.)
   unfoldable pub walk : ℕ → ℕ → List ℕ
@@ -146,7 +146,7 @@ module _ (ws : List ℕ) where
   sound =
       let kinds-right = kinds_right in
       let rest = every (stack_tests ++ (resident_tests ++ chain_tests)) in
-      if eqb (settings_number settings_in) 0 then (if kinds-right then rest else false) else false
+      when eqb (settings_number settings_in) 0 then (when kinds-right then rest else false) else false
 
   -- ---- the recency stack that the words stand for, with a store beside it
 

@@ -3,7 +3,7 @@ use Rattle.std.specs.Prelude.{ℕ, zero, suc, ◌+◌, ◌/◌, ◌%◌, ◌^◌
 use Rattle.std.proofs.Common.{arith, le_of_suc-le-suc, not-suc-le-zero, zero-add, suc-add, add-zero, add-suc, mod-lt, sym, ap, subst, ◌∙◌, inl, inr, ⊎_elim, lt-ltb, le-ltb, le-leb}
 use Rattle.std.proofs.Math.Arith.{digits_div, digits_mod}
 use Rattle.std.proofs.Math.Facts.{and_yes, or_no, T_not-not, ltb_yes, ltb_no, leb_yes}
-use Rattle.basics.specs.Basics.{All, if◌then◌else◌, word, total}
+use Rattle.basics.specs.Basics.{All, when◌then◌else◌, word, total}
 use Rattle.basics.specs.AllLaws.{all_left, all_right}
 use Rattle.basics.specs.TestLaws.{split, same_or_not, if_either}
 use Rattle.settings.specs.declared.Settings.{Settings}
@@ -141,14 +141,14 @@ word_says s m x (some, fewer, legal) = go (eqb (x % 4) 0)
     small : v < 2 ^ 28
     small = let b = stored in let l = (few_stored s.m legal).1 in omega arith
 
-    go : (b : Bool) → work s (word (if b then 2 else 1) v) ≡ (if b then write v else read v)
+    go : (b : Bool) → work s (word (when b then 2 else 1) v) ≡ (when b then write v else read v)
     go true = rw (digits_div 2 small, digits_mod 2 small, lt-ltb v s.m stored)
     go false = rw (digits_div 1 small, digits_mod 1 small, lt-ltb v s.m stored)
 
 word_accesses : (s : Settings) (m x : ℕ) → Blocks m s.m → Accesses m (work s (load_word m x))
 word_accesses s m x blocks = rw (word_says s m x blocks) (go (eqb (x % 4) 0))
   where
-    go : (b : Bool) → Accesses m (if b then write (x / 4 % m) else read (x / 4 % m))
+    go : (b : Bool) → Accesses m (when b then write (x / 4 % m) else read (x / 4 % m))
     go true = block_below m x blocks.0
     go false = block_below m x blocks.0
 

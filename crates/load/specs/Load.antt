@@ -1,7 +1,7 @@
 -- A test load that anybody can repeat (SCOPE, "A test load"): work words drawn from xorshift's states, number 13, and what the two calls
 -- promise; then what is proved of a load. Assumes nothing.
 use Rattle.std.specs.Prelude.{ℕ, zero, suc, ◌+◌, ◌/◌, ◌%◌, ◌≤◌, ◌<◌, ◌≡◌, ◌≢◌, ◌⊎◌, Bool, ◌||◌, not, List, [], ◌∷◌, ◌++◌, map, length, T, ltb, eqb}
-use Rattle.basics.specs.Basics.{All, if◌then◌else◌, word}
+use Rattle.basics.specs.Basics.{All, when◌then◌else◌, word}
 use Rattle.settings.specs.declared.Settings.{Settings}
 use Rattle.settings.specs.Numbers.{legal_store}
 use Rattle.stack.specs.Stack.{Work, read, write, purge, flush, tick, pin, unpin, invalid}
@@ -20,7 +20,7 @@ states seed (suc n) = step seed ∷ states (step seed) n
 
 -- the work word of a state: a write, kind 2, if the state mod 4 is 0, else a read, kind 1; the block is (state div 4) mod M
 unfoldable pub load_word : ℕ → ℕ → ℕ
-load_word m x = word (if eqb (x % 4) 0 then 2 else 1) (x / 4 % m)
+load_word m x = word (when eqb (x % 4) 0 then 2 else 1) (x / 4 % m)
 
 -- n words from a seed
 unfoldable pub load : ℕ → ℕ → ℕ → List ℕ
@@ -46,7 +46,7 @@ declines seed m count room = eqb seed 0 || not (legal_store m) || too_many count
 -- then 13
 unfoldable pub load_number : ℕ → ℕ → ℕ → ℕ → ℕ
 unfolding declines
-load_number seed m count room = if declines seed m count room then 13 else 0
+load_number seed m count room = when declines seed m count room then 13 else 0
 
 -- What a call returns, and every word of the lent slice.
 pub record Load (seed m count : ℕ) (before : List ℕ) (n : ℕ) (after : List ℕ) : Type 0 where
@@ -57,7 +57,7 @@ pub record Load (seed m count : ℕ) (before : List ℕ) (n : ℕ) (after : List
 -- What the companion returns: the state after count words, or 0 for too many.
 unfoldable pub load_state : ℕ → ℕ → ℕ
 unfolding state_after
-load_state seed count = if too_many count then 0 else state_after seed count
+load_state seed count = when too_many count then 0 else state_after seed count
 
 -- ---- what is proved of a load
 
@@ -84,7 +84,7 @@ Blocks m M = (1 ≤ m) × (m ≤ M) × T (legal_store M)
 
 -- what a batch takes the word of a state for
 abbrev pub WordSays : Type 0
-WordSays = (s : Settings) (m x : ℕ) → Blocks m s.m → work s (load_word m x) ≡ (if eqb (x % 4) 0 then write (x / 4 % m) else read (x / 4 % m))
+WordSays = (s : Settings) (m x : ℕ) → Blocks m s.m → work s (load_word m x) ≡ (when eqb (x % 4) 0 then write (x / 4 % m) else read (x / 4 % m))
 
 -- every word of a load is a read or a write of a block below m
 abbrev pub AllAccesses : Type 0

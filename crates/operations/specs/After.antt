@@ -6,7 +6,7 @@ use Rattle.std.proofs.Common.{◌∙◌, arith, eq-eqb, ne_eqb, lt-ltb, le-ltb}
 use Rattle.std.proofs.Math.Bool.{Bool, true, false}
 use mathlib.Core.List.{List, [], ◌∷◌, ◌++◌, map}
 use Rattle.std.proofs.Math.Decide.{dec_le}
-use Rattle.basics.specs.Basics.{bit, pick, All, if◌then◌else◌}
+use Rattle.basics.specs.Basics.{bit, pick, All, when◌then◌else◌}
 use Rattle.basics.specs.AllLaws.{all_map}
 use Rattle.links.specs.Upd.{upd, upd_same, upd_other}
 use Rattle.links.specs.Off.{Off}
@@ -54,16 +54,16 @@ module _ (t : Settings) (s : Shape) (D : Fields) (above : List ℕ) (e : ℕ) (b
       g.stack.ring.some g.stack.sections g.stack.young g.stack.elder
 
   -- the count rises as defined
-  count_is : raised_count (D SECTION e) (D COUNT e) ≡ (if is_new t (length above) then resident D e else raise (resident D e)).count
+  count_is : raised_count (D SECTION e) (D COUNT e) ≡ (when is_new t (length above) then resident D e else raise (resident D e)).count
   unfolding raise
   count_is = go (dec_le (suc (length above)) s.new)
     where
-      pick_if : (b : Bool) (c : ℕ) → pick b (c + 1) c ≡ (if b then c + 1 else c)
+      pick_if : (b : Bool) (c : ℕ) → pick b (c + 1) c ≡ (when b then c + 1 else c)
       pick_if true c = refl
       pick_if false c = refl
 
       go : Dec (suc (length above) ≤ s.new) → raised_count (D SECTION e)
-          (D COUNT e) ≡ (if is_new t (length above) then resident D e else raise (resident D e)).count
+          (D COUNT e) ≡ (when is_new t (length above) then resident D e else raise (resident D e)).count
       go (yes h) =
           let z : D SECTION e ≡ 0 = section_e ∙ omega (
             arith,
@@ -76,27 +76,27 @@ module _ (t : Settings) (s : Shape) (D : Fields) (above : List ℕ) (e : ℕ) (b
           let z : ¬ (D SECTION e ≡ 0) = λ c. omega (arith, section_e, mark_in s.new (length above) (omega arith)) in
           rw (ne_eqb (D SECTION e) 0 z, le-ltb (length above) t.nnew (omega (arith, of.new_is))) (pick_if (ltb (D COUNT e) 65535) (D COUNT e))
 
-  block_is : (b : Bool) → D BLOCK e ≡ (if b then resident D e else raise (resident D e)).block
+  block_is : (b : Bool) → D BLOCK e ≡ (when b then resident D e else raise (resident D e)).block
   unfolding raise
   block_is true = refl
   block_is false = refl
 
-  marks_are : (b : Bool) → marks_in (D MODIFIED e) ≡ (if b then resident D e else raise (resident D e)).marks
+  marks_are : (b : Bool) → marks_in (D MODIFIED e) ≡ (when b then resident D e else raise (resident D e)).marks
   unfolding raise
   marks_are true = refl
   marks_are false = refl
 
-  held_is : (b : Bool) → e ≡ (if b then resident D e else raise (resident D e)).held
+  held_is : (b : Bool) → e ≡ (when b then resident D e else raise (resident D e)).held
   unfolding raise
   held_is true = refl
   held_is false = refl
 
   -- the resident once it was asked for
-  pub risen_is : (if is_new t (length above) then resident D e else raise (resident D e)) ≡ counted (raised_count (D SECTION e) (D COUNT e))
+  pub risen_is : (when is_new t (length above) then resident D e else raise (resident D e)) ≡ counted (raised_count (D SECTION e) (D COUNT e))
       (resident D e)
   risen_is =
       let b : Bool = is_new t (length above) in
-      let p : counted (raised_count (D SECTION e) (D COUNT e)) (resident D e) ≡ (if b then resident D e else raise (resident D e)) =
+      let p : counted (raised_count (D SECTION e) (D COUNT e)) (resident D e) ≡ (when b then resident D e else raise (resident D e)) =
       λ i. record { block = block_is b i; count = count_is i; marks = marks_are b i; held = held_is b i } in
       sym p
 
@@ -106,7 +106,7 @@ module _ (t : Settings) (s : Shape) (D : Fields) (above : List ℕ) (e : ℕ) (b
   hit_residents w =
       let E : Fields = marked w (hitD s D e) e in
       let b : Bool = is_new t (length above) in
-      let risen : Resident ℕ = if b then resident D e else raise (resident D e) in
+      let risen : Resident ℕ = when b then resident D e else raise (resident D e) in
       let c : D BLOCK e ≡ risen.block = block_is b in
       let n : E COUNT e ≡ risen.count = upd_same (D COUNT) e (raised_count (D SECTION e) (D COUNT e)) ∙ count_is in
       let m : marks_in (E MODIFIED e) ≡ asked_marks w risen.marks = mark_asked w (D MODIFIED) e ∙ ap (asked_marks w) (marks_are b) in

@@ -5,7 +5,7 @@ use Rattle.std.proofs.Common.{◌∙◌, sym, ap, ap₂, arith}
 use Rattle.std.proofs.Math.Option.{some}
 use Rattle.std.proofs.Math.ListN.{get_elem?}
 use borrow.Author.Tests.{eqb-true}
-use Rattle.basics.specs.Basics.{All, pick, if◌then◌else◌}
+use Rattle.basics.specs.Basics.{All, pick, when◌then◌else◌}
 use Rattle.basics.specs.Basics as basics
 use Rattle.links.specs.Upd.{upd}
 use Rattle.words.specs.Words.{set_number, val}
@@ -111,7 +111,7 @@ remarked_seen change D e v says (x ∷ order) = ap₂ ◌∷◌ (one (eqb x e) (
   where
     one : (b : Bool) → (b ≡ true → x ≡ e)
         → ◌≡◌ {A = Resident ℕ} (record { block = D 0 x; count = D 1 x; marks = marks_in (pick b v (D MODIFIED x)); held = x })
-        (if b then remarked change (resident D x) else resident D x)
+        (when b then remarked change (resident D x) else resident D x)
     one true h = λ i. record { block = D 0 x; count = D 1 x; marks = (says ∙ ap (λ y. change (marks_in (D MODIFIED y))) (sym (h refl))) i; held = x }
     one false h = refl
 
@@ -119,7 +119,7 @@ marked_sum : (change : Marks → Marks) (e : ℕ) (l : List (Resident ℕ)) → 
 marked_sum change e [] = refl
 marked_sum change e (x ∷ l) = ap₂ ◌∷◌ (one (eqb x.held e)) (marked_sum change e l)
   where
-    one : (b : Bool) → (if b then remarked change x else x).count ≡ x.count
+    one : (b : Bool) → (when b then remarked change x else x).count ≡ x.count
     one true = refl
     one false = refl
 

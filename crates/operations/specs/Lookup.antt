@@ -4,7 +4,7 @@ use Rattle.std.proofs.Math.Path.{refl, ap, subst⁻¹}
 use Rattle.std.proofs.Common.{◌∙◌, sym, true≢false, inl, inr, ⊎_elim, arith, length-append, eq-eqb, ne_eqb}
 use Rattle.std.proofs.Math.Option.{Option, none, some}
 use Rattle.std.proofs.Math.Decide.{ℕ_discrete}
-use Rattle.basics.specs.Basics.{pick, All, if◌then◌else◌}
+use Rattle.basics.specs.Basics.{pick, All, when◌then◌else◌}
 use Rattle.basics.specs.AllLaws.{all_map, all_both, all_join}
 use Rattle.links.specs.Off.{Off, off_join}
 use Rattle.links.specs.Run.{Run}
@@ -155,19 +155,19 @@ module _ (s : Shape) (D : Fields) (residents unused : List ℕ) (g : WellLinked 
 
     -- as the recency stack has it
     pub lookup_seen : (n : ℕ) → s.N ≤ n → let r : ℕ = soughtD D b n (D BUCKET-HEADS (s.hash b)) in lookup b
-        (residents_of D residents) ≡ (if eqb r 0 then none else some (resident D r))
+        (residents_of D residents) ≡ (when eqb r 0 then none else some (resident D r))
     lookup_seen n h =
         ⊎_elim (λ k. one (soughtD D b n (D BUCKET-HEADS (s.hash b))) k.0 k.1) (λ k. two (soughtD D b n (D BUCKET-HEADS (s.hash b))) k)
         (lookup_is n h)
       where
-        one : (r : ℕ) → r ≡ 0 → NoneHas s D b → lookup b (residents_of D residents) ≡ (if eqb r 0 then none else some (resident D r))
+        one : (r : ℕ) → r ≡ 0 → NoneHas s D b → lookup b (residents_of D residents) ≡ (when eqb r 0 then none else some (resident D r))
         one r q a = rw (eq-eqb r 0 q) (lookup_none D b residents (missing s D residents unused b g a))
 
         at : (residents above : List ℕ) (e : ℕ) (below : List ℕ) → residents ≡ above ++ (e ∷ below) → WellLinked s D residents unused
             → lookup (D BLOCK e) (residents_of D residents) ≡ some (resident D e)
         at residents above e below w g = rw w (lookup_here s D above e below unused (rw w at g))
 
-        two : (r : ℕ) → Holder D b residents r → lookup b (residents_of D residents) ≡ (if eqb r 0 then none else some (resident D r))
+        two : (r : ℕ) → Holder D b residents r → lookup b (residents_of D residents) ≡ (when eqb r 0 then none else some (resident D r))
         two r k =
             let z : ¬ (r ≡ 0) = λ c. omega (arith, k.some) in
             rw (ne_eqb r 0 z, ← k.block) (at residents k.before r k.behind k.whole g)
@@ -210,6 +210,6 @@ module _ (s : Shape) (w : List ℕ) (D : Fields) (residents unused : List ℕ) (
   pub find_seen : s.N ≤ n → lookup b (residents_of D residents) ≡ as_option D (found w (base s) n (24 + 2 * s.cmax + s.hash b) b)
   find_seen h = lookup_seen s D residents unused g.linked b n h ∙ rw found_view (go (eqb r 0))
     where
-      go : (t : Bool) → (if t then none else some (resident D r)) ≡ as_option D (pick t Absent (At r))
+      go : (t : Bool) → (when t then none else some (resident D r)) ≡ as_option D (pick t Absent (At r))
       go true = refl
       go false = refl

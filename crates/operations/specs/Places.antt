@@ -5,7 +5,7 @@ use Rattle.std.proofs.Math.Path.{ap}
 use Rattle.std.proofs.Math.Option.{none, some}
 use Rattle.std.proofs.Math.ListN.{length, get_elem?, length-map}
 use Rattle.basics.specs.AllLaws.{all_map}
-use Rattle.basics.specs.Basics.{if◌then◌else◌, without}
+use Rattle.basics.specs.Basics.{when◌then◌else◌, without}
 use Rattle.basics.specs.TestLaws.{if_yes}
 use Rattle.settings.specs.declared.Settings.{Settings}
 use Rattle.stack.specs.Counts.{is_new, victim}
@@ -28,12 +28,12 @@ module _ (s : Shape) (D : Fields) (above : List ℕ) (e : ℕ) (below free : Lis
   l = residents_of D (above ++ (e ∷ below))
 
   pub place_hit : (t : Settings) → place t (D BLOCK e) (residents_of D (above ++ (e ∷ below))) ≡ found
-      (if is_new t (length above) then resident D e else raise (resident D e)) (residents_of D (above ++ below))
+      (when is_new t (length above) then resident D e else raise (resident D e)) (residents_of D (above ++ below))
   unfolding place found_at
   place_hit t =
       ap (λ (p : ℕ). found_at t p l (get_elem? l p)) (position_here s D above e below free g)
       ∙ ap (found_at t (length above) l) (elem_here (resident D) above e below)
-      ∙ ap (found (if is_new t (length above) then resident D e else raise (resident D e))) (without_here (resident D) above e below)
+      ∙ ap (found (when is_new t (length above) then resident D e else raise (resident D e))) (without_here (resident D) above e below)
 
   pub lookup_here : lookup (D BLOCK e) (residents_of D (above ++ (e ∷ below))) ≡ some (resident D e)
   unfolding lookup

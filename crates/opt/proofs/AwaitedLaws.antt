@@ -8,7 +8,7 @@ use Rattle.std.proofs.lemmas.Bool.{false≢true}
 use mathlib.Core.List.{List, [], ◌∷◌}
 use Rattle.std.proofs.Math.ListN.{length}
 use Rattle.std.proofs.Math.Dec.{eqb, eqb-suc-zero, eqb-zero-suc, eqb-suc-suc}
-use Rattle.basics.specs.Basics.{if◌then◌else◌, bit, member, index_of}
+use Rattle.basics.specs.Basics.{when◌then◌else◌, bit, member, index_of}
 use Rattle.opt.specs.Opt.{remove, next, victim, kept, opt}
 use Rattle.opt.specs.Optimal.{Rather}
 use Rattle.opt.proofs.RemoveLaws.{either, same, eqb_self, apart, swap, below, above, Distinct, off_remove, remove_off, distinct_remove}
@@ -48,7 +48,7 @@ awaited_alike (b ∷ t) {C = C} {D = D} a (suc j) =
     (λ e. rw (remove_off b C e, remove_off b D (sym (a.members b) ∙ e)) (awaited_alike t a j))
 
 awaited_add : (b : ℕ) (t R : List ℕ) → member b R ≡ false → (j : ℕ) → j < length t
-    → awaited (b ∷ R) t j ≡ (if eqb (next b t) j then 1 else awaited R t j)
+    → awaited (b ∷ R) t j ≡ (when eqb (next b t) j then 1 else awaited R t j)
 unfolding awaited index_of remove member
 awaited_add b [] R h j l = absurd (omega arith)
 awaited_add b (c ∷ t) R h zero l =
@@ -70,7 +70,7 @@ awaited_gone v (c ∷ t) R h =
     (λ e. rw e (awaited_gone v t (remove c R) (off_remove v c R h)))
 
 module _ (t C : List ℕ) (u : Distinct C) (x : ℕ) (m : member x C ≡ true) where
-  awaited_front : (j : ℕ) → j < length t → awaited C t j ≡ (if eqb (next x t) j then 1 else awaited (remove x C) t j)
+  awaited_front : (j : ℕ) → j < length t → awaited C t j ≡ (when eqb (next x t) j then 1 else awaited (remove x C) t j)
   awaited_front j l = let a = alike_front x m u in awaited_alike t a j ∙ awaited_add x t (remove x C) a.right.0 j l
 
   awaited_in : next x t < length t → awaited C t (next x t) ≡ 1
@@ -101,7 +101,7 @@ record LastLeaves (t C : List ℕ) : Type 0 where
   pub inside : next (victim t C) t < length t
   pub is_awaited : awaited C t (next (victim t C) t) ≡ 1
   pub is_last : (j : ℕ) → next (victim t C) t < j → j < length t → awaited C t j ≡ 0
-  pub gone : (j : ℕ) → j < length t → awaited (remove (victim t C) C) t j ≡ (if eqb (next (victim t C) t) j then 0 else awaited C t j)
+  pub gone : (j : ℕ) → j < length t → awaited (remove (victim t C) C) t j ≡ (when eqb (next (victim t C) t) j then 0 else awaited C t j)
   pub fewer_awaited : near (length t) t C ≡ suc (near (length t) t (remove (victim t C) C))
 
 last_leaves : (t C : List ℕ) → Distinct C → 1 ≤ length C → length C ≤ near (length t) t C → LastLeaves t C
@@ -175,12 +175,12 @@ rest_as r A' waiting' came' words l k =
     }
 
 pub noted : {N b : ℕ} {t C : List ℕ} {A : ℕ → ℕ} {waiting came : ℕ} (r : Rest N b t C A waiting came)
-    → At N t (λ j. if eqb (next b t) j then 1 else A j) (waiting + soon (length t) t b) r.after
+    → At N t (λ j. when eqb (next b t) j then 1 else A j) (waiting + soon (length t) t b) r.after
 noted {b = b} {t = t} r =
     record {
       distinct = r.alike.right;
       few = r.few;
-      awaited_are = λ j l. ap (λ (n : ℕ). if eqb (next b t) j then 1 else n) (r.awaited_are j l)
+      awaited_are = λ j l. ap (λ (n : ℕ). when eqb (next b t) j then 1 else n) (r.awaited_are j l)
           ∙ sym (awaited_add b t r.others r.absent j l) ∙ awaited_alike t r.alike j;
       waiting_is = omega (arith, r.waiting_is, r.near_is);
     }
@@ -284,7 +284,7 @@ module _ (N : ℕ) (pos : 1 ≤ N) (b : ℕ) (t : List ℕ) (A : ℕ → ℕ) (w
       pub top_inside : top < length t
       pub top_awaited : A (suc top) ≡ 1
       pub top_last : (j : ℕ) → top < j → j < length t → A (suc j) ≡ 0
-      pub rest : Rest N b t C (λ j. if eqb top j then 0 else A (suc j)) (waiting - 1) 1
+      pub rest : Rest N b t C (λ j. when eqb top j then 0 else A (suc j)) (waiting - 1) 1
 
     pub full_rest : N ≤ waiting → Last
     unfolding kept
@@ -300,7 +300,7 @@ module _ (N : ℕ) (pos : 1 ≤ N) (b : ℕ) (t : List ℕ) (A : ℕ → ℕ) (w
           top_awaited = miss_awaited _ l.inside ∙ l.is_awaited;
           top_last = λ j g e. miss_awaited j e ∙ l.is_last j g e;
           rest = miss_rest _ _
-              (λ j e. ap (λ (n : ℕ). if eqb (next (victim t C) t) j then 0 else n) (miss_awaited j e)
+              (λ j e. ap (λ (n : ℕ). when eqb (next (victim t C) t) j then 0 else n) (miss_awaited j e)
               ∙ sym (l.gone j e) ∙ sym (ap (λ D. awaited D t j) k))
               (let g = ap (near (length t) t) k in let q = l.fewer_awaited in omega arith);
         }

@@ -3,14 +3,14 @@ use Rattle.std.specs.Prelude.{ℕ, suc, ◌+◌, ◌≤◌, ◌<◌, ◌≡◌, 
 use Rattle.std.proofs.Common.{arith, true≢false, lt-ltb}
 use Rattle.std.proofs.lemmas.Bool.{false≢true}
 use Rattle.std.proofs.Math.Dec.{leb-suc-suc, leb-suc-zero}
-use Rattle.basics.specs.Basics.{if◌then◌else◌, member}
+use Rattle.basics.specs.Basics.{when◌then◌else◌, member}
 use Rattle.opt.specs.Opt.{remove, next}
 use Rattle.opt.proofs.RemoveLaws.{either, same, Distinct}
 use Rattle.opt.proofs.VictimLaws.{next_now, next_later}
 
 -- 1 where x is read within d reads
 unfoldable pub soon : ℕ → List ℕ → ℕ → ℕ
-soon d t x = if ltb (next x t) d then 1 else 0
+soon d t x = when ltb (next x t) d then 1 else 0
 
 unfoldable pub near : ℕ → List ℕ → List ℕ → ℕ
 near d t [] = 0
@@ -84,6 +84,6 @@ near_remove d t v (x ∷ C) h = go (eqb x v) refl h (near_remove d t v C)
   where
     go : (w : Bool) → eqb x v ≡ w → (w || member v C) ≡ true
         → (member v C ≡ true → near d t C ≡ soon d t v + near d t (remove v C))
-        → near d t (x ∷ C) ≡ soon d t v + near d t (if w then C else (x ∷ remove v C))
+        → near d t (x ∷ C) ≡ soon d t v + near d t (when w then C else (x ∷ remove v C))
     go true e h rec = rw (same x v e)
     go false e h rec = omega (arith, rec h)

@@ -5,7 +5,7 @@ use Rattle.std.proofs.Common.{arith, sym, ap, ◌∙◌, inl, inr}
 use Rattle.std.proofs.Math.Logic.{⊎_elim}
 use mathlib.Core.List.{List, [], ◌∷◌}
 use Rattle.std.proofs.Math.Facts.{ltb_yes, ltb_no}
-use Rattle.basics.specs.Basics.{if◌then◌else◌, member}
+use Rattle.basics.specs.Basics.{when◌then◌else◌, member}
 use Rattle.basics.specs.TestLaws.{if_either}
 use Rattle.opt.specs.Opt.{remove, next, victim, kept, opt, opt_ins}
 use Rattle.opt.specs.Schemes.{Loads, room, full, Runs, done, hit, miss, Rule, Names, rule_ins}
@@ -166,7 +166,7 @@ opt_fewest N pos t ins r = omega (arith, least N pos r [] 0 tt tt (omega arith) 
 
 module _ (rule : Rule) (N : ℕ) where
   abbrev stay : List ℕ → List ℕ → List ℕ → List ℕ
-  stay past t C = if ltb (length C) N then C else remove (rule past t C) C
+  stay past t C = when ltb (length C) N then C else remove (rule past t C) C
 
   rule_hit : (b : ℕ) (past t C : List ℕ) → member b C ≡ true → rule_ins rule N past (b ∷ t) C ≡ rule_ins rule N (b ∷ past) t C
   unfolding rule_ins

@@ -2,7 +2,7 @@
 use Rattle.std.specs.Prelude.{ℕ, suc, ◌≤◌, ◌<◌, ◌≡◌, refl, Bool, true, false, ◌||◌, List, [], ◌∷◌, length, eqb, ltb}
 use Rattle.std.proofs.Common.{arith, sym, ap, ◌∙◌, true≢false, eqb→eq, ltb→lt, nltb→le, eq-eqb}
 use Rattle.std.proofs.lemmas.Bool.{false≢true}
-use Rattle.basics.specs.Basics.{if◌then◌else◌, member}
+use Rattle.basics.specs.Basics.{when◌then◌else◌, member}
 use Rattle.opt.specs.Opt.{remove}
 
 -- ---- tests
@@ -43,7 +43,7 @@ length_remove v [] h = absurd (false≢true h)
 length_remove v (x ∷ C) h = go (eqb x v) h (length_remove v C)
   where
     go : (w : Bool) → (w || member v C) ≡ true → (member v C ≡ true → length C ≡ suc (length (remove v C)))
-        → suc (length C) ≡ suc (length (if w then C else (x ∷ remove v C)))
+        → suc (length C) ≡ suc (length (when w then C else (x ∷ remove v C)))
     go true h rec = refl
     go false h rec = ap suc (rec h)
 
@@ -53,7 +53,7 @@ off_remove b v [] h = refl
 off_remove b v (x ∷ C) h = go (eqb x b) (eqb x v) refl h (off_remove b v C)
   where
     go : (w z : Bool) → eqb x b ≡ w → (w || member b C) ≡ false → (member b C ≡ false → member b (remove v C) ≡ false)
-        → member b (if z then C else (x ∷ remove v C)) ≡ false
+        → member b (when z then C else (x ∷ remove v C)) ≡ false
     go true z e h rec = absurd (true≢false h)
     go false true e h rec = h
     go false false e h rec = rw e (rec h)
@@ -69,17 +69,17 @@ unfolding remove
 distinct_remove v [] u = tt
 distinct_remove v (x ∷ C) u = go (eqb x v) (distinct_remove v C u.1)
   where
-    go : (w : Bool) → Distinct (remove v C) → Distinct (if w then C else (x ∷ remove v C))
+    go : (w : Bool) → Distinct (remove v C) → Distinct (when w then C else (x ∷ remove v C))
     go true rec = u.1
     go false rec = (off_remove x v C u.0, rec)
 
-pub member_remove : (x v : ℕ) (C : List ℕ) → Distinct C → member x (remove v C) ≡ (if eqb v x then false else member x C)
+pub member_remove : (x v : ℕ) (C : List ℕ) → Distinct C → member x (remove v C) ≡ (when eqb v x then false else member x C)
 unfolding member remove
 member_remove x v [] u = either (eqb v x) (λ e. rw e) (λ e. rw e)
 member_remove x v (y ∷ C) u = go (eqb y v) refl (member_remove x v C u.1)
   where
-    go : (w : Bool) → eqb y v ≡ w → member x (remove v C) ≡ (if eqb v x then false else member x C)
-        → member x (if w then C else (y ∷ remove v C)) ≡ (if eqb v x then false else (eqb y x || member x C))
+    go : (w : Bool) → eqb y v ≡ w → member x (remove v C) ≡ (when eqb v x then false else member x C)
+        → member x (when w then C else (y ∷ remove v C)) ≡ (when eqb v x then false else (eqb y x || member x C))
     go true e rec =
         either (eqb v x)
         (λ f. rw f (rw (same y v e ∙ same v x f) at u.0))
@@ -116,7 +116,7 @@ alike_cons b h a =
 pub alike_remove : {C D : List ℕ} (v : ℕ) → member v C ≡ true → Alike C D → Alike (remove v C) (remove v D)
 alike_remove {C} {D} v m a =
     record {
-      members = λ x. member_remove x v C a.left ∙ ap (λ (w : Bool). if eqb v x then false else w) (a.members x)
+      members = λ x. member_remove x v C a.left ∙ ap (λ (w : Bool). when eqb v x then false else w) (a.members x)
           ∙ sym (member_remove x v D a.right);
       long = omega (arith, a.long, length_remove v C m, length_remove v D (sym (a.members v) ∙ m));
       left = distinct_remove v C a.left;

@@ -2,7 +2,7 @@
 use Rattle.std.specs.Prelude.{ℕ, suc, ◌≡◌, true, false}
 use Rattle.std.proofs.Common.{sym, ◌∙◌}
 use mathlib.Core.List.{List, [], ◌∷◌}
-use Rattle.basics.specs.Basics.{if◌then◌else◌, member}
+use Rattle.basics.specs.Basics.{when◌then◌else◌, member}
 use Rattle.opt.specs.Opt.{remove}
 use Rattle.opt.specs.Schemes.{Loads, room, full, Runs, done, hit, miss}
 use Rattle.opt.proofs.RemoveLaws.{either, off_remove, Alike, alike_sym, alike_cons, alike_remove}
@@ -34,7 +34,7 @@ module _ {State : Type 0} (residents : State → List ℕ) (read : ℕ → State
   -- its ins on a trace: its misses
   unfoldable pub misses_of : List ℕ → State → ℕ
   misses_of [] s = 0
-  misses_of (b ∷ t) s = let later = misses_of t (read b s) in if member b (residents s) then later else suc later
+  misses_of (b ∷ t) s = let later = misses_of t (read b s) in when member b (residents s) then later else suc later
 
   -- It is a scheme of N blocks: a hit leaves the residents; a miss loads the block, and replaces one resident only when full.
   pub record Scheme (N : ℕ) (Good : State → Type 0) : Type 0 where

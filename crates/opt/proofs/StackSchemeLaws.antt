@@ -9,7 +9,7 @@ use mathlib.Core.List.{List, [], ◌∷◌, map}
 use Rattle.std.proofs.Math.Option.{some}
 use Rattle.std.proofs.Math.ListN.{get_elem?, length-map}
 use Rattle.std.proofs.Math.Facts.{T_not}
-use Rattle.basics.specs.Basics.{All, if◌then◌else◌, member, without}
+use Rattle.basics.specs.Basics.{All, when◌then◌else◌, member, without}
 use Rattle.basics.specs.TestLaws.{if_either}
 use Rattle.settings.specs.declared.Settings.{Settings}
 use Rattle.settings.specs.NumbersLaws.{LegalSettings, legal_settings}
@@ -170,10 +170,10 @@ module _ (N b : ℕ) (k : Plain) (g : Good N k) where
   ins_then = refl
 
   -- its ins: one for a miss
-  read_ins : (after_read b k).totals.ins ≡ k.totals.ins + (if member b (contents k) then 0 else 1)
+  read_ins : (after_read b k).totals.ins ≡ k.totals.ins + (when member b (contents k) then 0 else 1)
   read_ins = go one
     where
-      go : Hit s b held l q ⊎ Miss s b held l q → (after_read b k).totals.ins ≡ k.totals.ins + (if member b (contents k) then 0 else 1)
+      go : Hit s b held l q ⊎ Miss s b held l q → (after_read b k).totals.ins ≡ k.totals.ins + (when member b (contents k) then 0 else 1)
       go (inl h) = rw h.is_there (ins_then ∙ ap (λ (n : ℕ). k.totals.ins + n) h.comes)
       go (inr h) = rw h.is_absent (ins_then ∙ ap (λ (n : ℕ). k.totals.ins + n) h.comes)
 

@@ -5,7 +5,7 @@ use Rattle.std.proofs.Common.{arith, sym, inl, inr, leb→le}
 use Rattle.std.proofs.lemmas.Bool.{false≢true}
 use Rattle.std.proofs.Math.Dec.{nleb→lt}
 use Rattle.std.proofs.Math.Path.{subst⁻¹}
-use Rattle.basics.specs.Basics.{if◌then◌else◌, member, index_of}
+use Rattle.basics.specs.Basics.{when◌then◌else◌, member, index_of}
 use Rattle.opt.specs.Opt.{next, further, victim}
 use Rattle.opt.proofs.RemoveLaws.{either, same, eqb_self, swap, below, above}
 use Rattle.opt.specs.Optimal.{Rather, VictimFurthest, NeverFurthest}
@@ -17,7 +17,7 @@ unfolding index_of member
 next_never b [] m = refl
 next_never b (x ∷ t) m = go (eqb x b) m (next_never b t)
   where
-    go : (v : Bool) → (v || member b t) ≡ false → (member b t ≡ false → next b t ≡ length t) → (if v then 0 else suc (next b t)) ≡ suc (length t)
+    go : (v : Bool) → (v || member b t) ≡ false → (member b t ≡ false → next b t ≡ length t) → (when v then 0 else suc (next b t)) ≡ suc (length t)
     go true m rec = absurd (false≢true (sym m))
     go false m rec = omega (arith, rec m)
 

@@ -1,7 +1,7 @@
 -- The schemes that OPT is compared with (SCOPE, "What the new rule gains"): of N blocks, loading the block at every miss and nothing at
 -- other times, replacing one resident only when full. They start empty where residents C are []. Assumes nothing.
 use Rattle.std.specs.Prelude.{ℕ, suc, ◌<◌, ◌≡◌, true, false, List, [], ◌∷◌, length, ltb}
-use Rattle.basics.specs.Basics.{if◌then◌else◌, member}
+use Rattle.basics.specs.Basics.{when◌then◌else◌, member}
 use Rattle.opt.specs.Opt.{remove}
 
 -- Who may be resident once a scheme has loaded block b: it and all that were, where there is room; when full, it and all that were but one,
@@ -34,5 +34,5 @@ unfolding member remove
 rule_ins rule N past [] C = 0
 rule_ins rule N past (b ∷ t) C =
     let now = b ∷ past in
-    let stay = if ltb (length C) N then C else remove (rule now t C) C in
+    let stay = when ltb (length C) N then C else remove (rule now t C) C in
     elim (member b C) [ true ↦ rule_ins rule N now t C | false ↦ suc (rule_ins rule N now t (b ∷ stay)) ]

@@ -9,7 +9,7 @@ use lib.Seq.{get_or-set_same, get_or-set_other}
 use lib.Dec.{eqb, ltb}
 use borrow.Author.Tests.{ne_eqb, eq-eqb, lt-ltb, le-ltb}
 use mir.Facts.{eqb_yes, yes_eqb}
-use Rattle.basics.specs.Basics.{if◌then◌else◌, index_of}
+use Rattle.basics.specs.Basics.{when◌then◌else◌, index_of}
 use Rattle.stack.specs.Counts.{greatest}
 use Rattle.stack.proofs.NumberLaws.{greatest_passes}
 use Rattle.opt.specs.Opt.{opt, opt_ins}
@@ -220,7 +220,7 @@ module _ (trace : List ℕ) (n : ℕ) (awaited : List ℕ) (waiting ins i : ℕ)
       (λ j l. ap (λ w. get_or w (i + 1 + j) 0) (sym q.1) ∙ words top last.top_inside is j) (sym q.0) (omega arith)
     where
       words : (top : ℕ) → top < length t → last_awaited awaited len ≡ i + 1 + top → (j : ℕ)
-          → get_or (set awaited (last_awaited awaited len) 0) (i + 1 + j) 0 ≡ (if eqb top j then 0 else get_or awaited (i + suc j) 0)
+          → get_or (set awaited (last_awaited awaited len) 0) (i + 1 + j) 0 ≡ (when eqb top j then 0 else get_or awaited (i + suc j) 0)
       words top inside is j =
           either (eqb top j)
           (λ e. let k = same top j e in let at_j : i + 1 + j ≡ last_awaited awaited len = omega arith in
@@ -269,7 +269,7 @@ module _ (trace : List ℕ) (n : ℕ) (awaited : List ℕ) (waiting ins i : ℕ)
   record Noted : Type 0 where
     pub waiting_is : note_waiting far len (room_waiting awaited i waiting n) ≡ room_waiting awaited i waiting n + soon (length t) t b
     pub words_are : (j : ℕ) → j < length t
-        → get_or (note_awaited left far len) (i + 1 + j) 0 ≡ (if eqb (index_of b t) j then 1 else get_or left (i + 1 + j) 0)
+        → get_or (note_awaited left far len) (i + 1 + j) 0 ≡ (when eqb (index_of b t) j then 1 else get_or left (i + 1 + j) 0)
 
   noted_words : Noted
   noted_words =

@@ -1,7 +1,7 @@
 -- OPT's code as pure functions of the words `awaited`, one for each position of the trace: 1 where the read there is the next one of a
 -- resident, else 0. `waiting` is how many of those to come are 1.
 use Rattle.std.specs.Prelude.{ℕ, ◌+◌, ◌-◌, ◌≤◌, ◌<◌, ◌≢◌, List, length, get_or, set, drop, eqb, ltb}
-use Rattle.basics.specs.Basics.{if◌then◌else◌, index_of}
+use Rattle.basics.specs.Basics.{when◌then◌else◌, index_of}
 use Rattle.stack.specs.Counts.{greatest}
 use Rattle.opt.specs.Ins.{block_of, trace_of, most_reads}
 
@@ -14,17 +14,17 @@ last_awaited awaited len = greatest (λ p. eqb (get_or awaited p 0) 1) len 0
 unfoldable pub room_awaited : List ℕ → ℕ → ℕ → ℕ → ℕ → List ℕ
 unfolding greatest
 room_awaited awaited i len waiting n =
-    if eqb (get_or awaited i 0) 0 then (if ltb waiting n then awaited else set awaited (last_awaited awaited len) 0) else awaited
+    when eqb (get_or awaited i 0) 0 then (when ltb waiting n then awaited else set awaited (last_awaited awaited len) 0) else awaited
 
 unfoldable pub room_waiting : List ℕ → ℕ → ℕ → ℕ → ℕ
-room_waiting awaited i waiting n = if eqb (get_or awaited i 0) 0 then (if ltb waiting n then waiting else waiting - 1) else waiting - 1
+room_waiting awaited i waiting n = when eqb (get_or awaited i 0) 0 then (when ltb waiting n then waiting else waiting - 1) else waiting - 1
 
 -- The block read is awaited again at its next read.
 unfoldable pub note_awaited : List ℕ → ℕ → ℕ → List ℕ
-note_awaited awaited next len = if ltb next len then set awaited next 1 else awaited
+note_awaited awaited next len = when ltb next len then set awaited next 1 else awaited
 
 unfoldable pub note_waiting : ℕ → ℕ → ℕ → ℕ
-note_waiting next len waiting = if ltb next len then waiting + 1 else waiting
+note_waiting next len waiting = when ltb next len then waiting + 1 else waiting
 
 -- where the block at position i is read next; the length where it never is
 unfoldable pub next_at : List ℕ → ℕ → ℕ

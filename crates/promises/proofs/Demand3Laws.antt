@@ -2,7 +2,7 @@
 use Rattle.std.specs.Prelude.{ℕ, ◌*◌, ◌≡◌, refl, Bool, true, false, List, ◌++◌, length, take, drop, T, ltb, eqb}
 use Rattle.std.proofs.Common.{sym, ap, subst, ◌∙◌}
 use Rattle.std.proofs.Math.Facts.{eqb_yes}
-use Rattle.basics.specs.Basics.{if◌then◌else◌}
+use Rattle.basics.specs.Basics.{when◌then◌else◌}
 use Rattle.settings.specs.declared.Settings.{Settings}
 use Rattle.settings.specs.Numbers.{settings_number}
 use Rattle.settings.specs.NumbersLaws.{legal_settings}
@@ -21,7 +21,7 @@ accepted_legal : (s : Settings) (n : ℕ) → fresh_number s n ≡ 0 → setting
 unfolding fresh_number
 accepted_legal s n = go (eqb (settings_number s) 0) eqb_yes
   where
-    go : (b : Bool) → (T b → settings_number s ≡ 0) → (if b then (if ltb n (directory_length s) then 5 else 0) else settings_number s) ≡ 0
+    go : (b : Bool) → (T b → settings_number s ≡ 0) → (when b then (when ltb n (directory_length s) then 5 else 0) else settings_number s) ≡ 0
         → settings_number s ≡ 0
     go true f e = f tt
     go false f e = e

@@ -6,7 +6,7 @@ use mathlib.Core.List.{List, [], ◌∷◌, ◌++◌}
 use Rattle.std.proofs.Math.ListN.{length-map}
 use Rattle.std.proofs.Math.Dec.{eqb}
 use Rattle.std.proofs.Math.Facts.{eqb_yes}
-use Rattle.basics.specs.Basics.{All, if◌then◌else◌, bit, total}
+use Rattle.basics.specs.Basics.{All, when◌then◌else◌, bit, total}
 use Rattle.basics.specs.ListLaws.{all_yes, yes_all}
 use Rattle.basics.specs.Lists.{all, counting}
 use Rattle.basics.specs.TestLaws.{if_yes}
@@ -34,7 +34,7 @@ unfolding table_in column
 eight words = go (sound words)
   where
     shown : Bool → Table
-    shown passes = if passes then table (residents_in words) else no_figures
+    shown passes = when passes then table (residents_in words) else no_figures
 
     go : (passes : Bool) → (length (shown passes).residents ≡ 8) × (length (shown passes).modified ≡ 8)
     go true = (refl, refl)

@@ -3,7 +3,7 @@ use Rattle.std.specs.Prelude.{ℕ, ◌*◌, ◌≤◌, ◌≡◌, Bool, true, fa
 use Rattle.std.proofs.Common.{arith, sym, ◌∙◌, length-take-le}
 use Rattle.std.proofs.Math.Path.{refl, ap, subst}
 use Rattle.std.proofs.Math.ListN.{length-take}
-use Rattle.basics.specs.Basics.{if◌then◌else◌}
+use Rattle.basics.specs.Basics.{when◌then◌else◌}
 use Rattle.settings.specs.declared.Settings.{Settings}
 use Rattle.stack.specs.Stack.{Plain, Work, answer_word}
 use Rattle.stack.specs.Batch.{Ran, work, batch_number, plain_run, AllReported, batch}
@@ -23,7 +23,7 @@ number_sound words incoming t h = go (sound t.directory) h
     n : ℕ
     n = batch_number (settings_in t.directory) (totals_in t.directory) (call_of words incoming t)
 
-    go : (b : Bool) → T b → (if b then n else 6) ≡ n
+    go : (b : Bool) → T b → (when b then n else 6) ≡ n
     go true h = refl
     go false h = absurd h
 
@@ -36,7 +36,7 @@ number_zero words incoming t = go (sound t.directory)
     n : ℕ
     n = batch_number (settings_in t.directory) (totals_in t.directory) (call_of words incoming t)
 
-    go : (b : Bool) → (if b then n else 6) ≡ 0 → T b × (n ≡ 0)
+    go : (b : Bool) → (when b then n else 6) ≡ 0 → T b × (n ≡ 0)
     go true e = (tt, e)
     go false e = absurd (omega (arith, e))
 

@@ -2,7 +2,7 @@
 use Rattle.std.specs.Prelude.{ℕ, ◌≡◌, refl, Bool, true, false, not, List, [], ◌∷◌, length, T, leb}
 use Rattle.std.proofs.Common.{arith}
 use Rattle.std.proofs.Math.Path.{subst}
-use Rattle.basics.specs.Basics.{if◌then◌else◌}
+use Rattle.basics.specs.Basics.{when◌then◌else◌}
 use Rattle.stack.proofs.BatchLaws.{allowed}
 use Rattle.stack.specs.StoreSize.{TwelveWhere}
 use Rattle.stack.proofs.StoreSizeLaws.{twelve_where, number_twelve}
@@ -15,12 +15,12 @@ use Rattle.promises.specs.StoreSize.{LentLong, BatchTwelve, BatchInsists, LookTw
 
 -- ---- behind the test of number 6
 
-behind_six : (b : Bool) (n : ℕ) {There : Type 0} → TwelveWhere n There → TwelveWhere (if b then n else 6) (T b × There)
+behind_six : (b : Bool) (n : ℕ) {There : Type 0} → TwelveWhere n There → TwelveWhere (when b then n else 6) (T b × There)
 behind_six true n w = ((λ t. w.0 t.1), λ e. (tt, w.1 e))
 behind_six false n w = ((λ t. absurd t.0), λ e. absurd (omega (arith, e)))
 
 -- the same test, the other way round
-other_way : (b : Bool) (n : ℕ) → (if b then n else 6) ≡ (if not b then 6 else n)
+other_way : (b : Bool) (n : ℕ) → (when b then n else 6) ≡ (when not b then 6 else n)
 other_way true n = refl
 other_way false n = refl
 

@@ -4,7 +4,7 @@ use Rattle.std.specs.Prelude.{◌≡◌, List, [], map, length, take, eqb}
 use Rattle.std.proofs.Common.{sym, ap, ◌∙◌}
 use Rattle.std.proofs.Math.Path.{subst}
 use Rattle.std.proofs.Math.Dec.{eqb-suc-zero}
-use Rattle.basics.specs.Basics.{if◌then◌else◌, block_at}
+use Rattle.basics.specs.Basics.{when◌then◌else◌, block_at}
 use Rattle.settings.specs.declared.Settings.{Settings}
 use Rattle.settings.specs.NumbersLaws.{legal_settings}
 use Rattle.stack.specs.Stack.{Plain}
@@ -37,7 +37,7 @@ module _ {m : Memory} {k : Plain} {rest : List ℕ} (alike : Alike m k rest) (c 
       (works_inside s c.words) a.incoming)
 
   call_story : {s : Settings} → Sure s k → (n : ℕ) (after : Slices) → Agrees c n after k (batch k (as_call c))
-      → Story s k (if eqb n 0 then these else []) (batch k (as_call c)).ran.after
+      → Story s k (when eqb n 0 then these else []) (batch k (as_call c)).ran.after
   unfolding batch
   call_story {s} sure zero after agrees = subst (λ t. Sure t k → Story t k _ _) sure.settings (accepted (sym agrees.number)) sure
   call_story sure (suc n) after agrees = rw (batch_declined k (as_call c) n (sym agrees.number), eqb-suc-zero) Story.end

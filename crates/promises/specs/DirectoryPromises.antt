@@ -4,7 +4,7 @@
 -- Statements only.
 use Rattle.std.specs.Prelude.{ℕ, ◌+◌, ◌≤◌, ◌<◌, ◌≡◌, Bool, not, List, map, length, drop, get_or, T, eqb}
 use Rattle.std.proofs.Math.Option.{Option, none, some}
-use Rattle.basics.specs.Basics.{if◌then◌else◌}
+use Rattle.basics.specs.Basics.{when◌then◌else◌}
 use Rattle.words.specs.Links.{links_changed}
 use Rattle.settings.specs.Buckets.{directory_length}
 use Rattle.stack.specs.Counts.{chains}
@@ -76,7 +76,7 @@ pub record Purged (links : ℕ) (before : List ℕ) (block : ℕ) (after : List 
 
 -- the one at an entry
 abbrev pub marked_at : (Marks → Marks) → ℕ → List (Resident ℕ) → List (Resident ℕ)
-marked_at change entry = map (λ x. if eqb x.held entry then remarked change x else x)
+marked_at change entry = map (λ x. when eqb x.held entry then remarked change x else x)
 
 abbrev pub more_outs : ℕ → Totals → Totals
 more_outs n t = record { reads = t.reads; writes = t.writes; ins = t.ins; outs = t.outs + n }

@@ -2,7 +2,7 @@
 -- the block's present bytes, by its bytes and by its place. Nothing is written. Statements only.
 use Rattle.std.specs.Prelude.{ℕ, ◌+◌, ◌-◌, ◌*◌, Bool, not, List, [], ◌∷◌, ◌++◌, length, leb, eqb}
 use Rattle.std.proofs.Math.Option.{Option, none, some}
-use Rattle.basics.specs.Basics.{if◌then◌else◌, first, block_at}
+use Rattle.basics.specs.Basics.{when◌then◌else◌, first, block_at}
 use Rattle.stack.specs.Recency.{Resident, lookup}
 use Rattle.stack.specs.Batch.{memory_tests}
 use Rattle.layout.specs.Sound.{settings_in, sound, residents_in}
@@ -35,11 +35,11 @@ unfoldable pub look_bytes : List ℕ → List ℕ → List ℕ → ℕ → List 
 unfolding look_number settings_in lookup
 look_bytes words bytes store block =
     let part = present (block_at (settings_in words).b) bytes store block (lookup block (residents_in words)) in
-    if eqb (look_number words bytes store block) 0 then part else []
+    when eqb (look_number words bytes store block) 0 then part else []
 
 -- where the part begins, given where data and store do; the empty part is at the front of data
 unfoldable pub look_place : List ℕ → List ℕ → List ℕ → ℕ → ℕ × ℕ → ℕ × ℕ → ℕ × ℕ
 unfolding look_number settings_in lookup
 look_place words bytes store block inData inStore =
     let place = present (place_at (settings_in words).b) inData inStore block (lookup block (residents_in words)) in
-    if eqb (look_number words bytes store block) 0 then place else inData
+    when eqb (look_number words bytes store block) 0 then place else inData

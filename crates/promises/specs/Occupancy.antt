@@ -1,7 +1,7 @@
 -- What the occupancy call promises (SCOPE, "Occupancy by count class"): its number, and the table of the residents read off along the
 -- stack links. It only reads. Then what is proved of the table. Statements only.
 use Rattle.std.specs.Prelude.{ℕ, ◌≤◌, ◌≡◌, List, [], ◌∷◌, map, get_or, T}
-use Rattle.basics.specs.Basics.{if◌then◌else◌, total}
+use Rattle.basics.specs.Basics.{when◌then◌else◌, total}
 use Rattle.basics.specs.Lists.{counting}
 use Rattle.words.specs.Words.{val}
 use Rattle.settings.specs.declared.Settings.{Settings}
@@ -17,7 +17,7 @@ use Rattle.promises.specs.Demand3.{Memory, Lending, Linked, starts, memory_left,
 -- 6 where the directory is not sound, as in a batch
 unfoldable pub occupancy_number : List ℕ → ℕ
 unfolding sound
-occupancy_number words = if sound words then 0 else 6
+occupancy_number words = when sound words then 0 else 6
 
 -- and then all sixteen figures are 0
 abbrev pub no_figures : Table
@@ -25,7 +25,7 @@ no_figures = record { residents = 0 ∷ 0 ∷ 0 ∷ 0 ∷ 0 ∷ 0 ∷ 0 ∷ 0 �
 
 unfoldable pub table_in : List ℕ → Table
 unfolding sound
-table_in words = let shown = table (residents_in words) in if sound words then shown else no_figures
+table_in words = let shown = table (residents_in words) in when sound words then shown else no_figures
 
 -- ---- every count from 1 to 65,535 has exactly one class
 

@@ -2,7 +2,7 @@
 -- buffer, the store, answers and outgoing. Every word and byte stands in an equation; open are the entries picked, the unused
 -- list's order and that of synonyms.
 use Rattle.std.specs.Prelude.{ℕ, ◌*◌, ◌≤◌, ◌≡◌, ◌≢◌, Bool, true, false, not, List, [], ◌∷◌, ◌++◌, map, length, take, drop, T}
-use Rattle.basics.specs.Basics.{All, if◌then◌else◌}
+use Rattle.basics.specs.Basics.{All, when◌then◌else◌}
 use Rattle.words.specs.Links.{links_changed}
 use Rattle.settings.specs.declared.Settings.{Settings}
 use Rattle.settings.specs.Buckets.{directory_length}
@@ -61,7 +61,7 @@ unfoldable pub number_of : List ℕ → List ℕ → Slices → ℕ
 unfolding sound settings_in totals_in batch_number
 number_of words incoming t =
     let next = batch_number (settings_in t.directory) (totals_in t.directory) (call_of words incoming t) in
-    if sound t.directory then next else 6
+    when sound t.directory then next else 6
 
 -- whether a word leaves all link words as they are: a flush, a tick, a pin or an unpin
 abbrev pub is_still : Work → Bool

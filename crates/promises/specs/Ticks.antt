@@ -1,6 +1,6 @@
 -- Writing out on the tick over every list of calls, as in demand 3 (SCOPE, "The plain stack"). Statements only.
 use Rattle.std.specs.Prelude.{ℕ, List, [], ◌∷◌, ◌++◌, map, eqb}
-use Rattle.basics.specs.Basics.{if◌then◌else◌}
+use Rattle.basics.specs.Basics.{when◌then◌else◌}
 use Rattle.settings.specs.declared.Settings.{Settings}
 use Rattle.stack.specs.Stack.{Plain}
 use Rattle.stack.specs.Batch.{work, batch}
@@ -14,7 +14,7 @@ turns_of k [] ts = []
 turns_of k (c ∷ cs) [] = []
 turns_of k (c ∷ cs) ((n, after) ∷ ts) =
     let these = turns k.settings.b k (map (work k.settings) c.words) c.incoming in
-    (if eqb n 0 then these else []) ++ turns_of (batch k (as_call c)).ran.after cs ts
+    (when eqb n 0 then these else []) ++ turns_of (batch k (as_call c)).ran.after cs ts
 
 -- A block that stays resident is written out at the second tick after its first unsaved write at the latest: in the plain stack beside
 -- the calls, with which the memory agrees after each of them (demand 3).

@@ -10,7 +10,7 @@ use Rattle.std.proofs.Math.Option.{Option, none, some}
 use Rattle.std.proofs.Math.ListN.{length, drop, get_elem?, length-map}
 use Rattle.std.proofs.Math.Dec.{eqb, ltb}
 use Rattle.std.proofs.Math.Facts.{yes_eqb, no_eqb}
-use Rattle.basics.specs.Basics.{if◌then◌else◌, total, without, index_of}
+use Rattle.basics.specs.Basics.{when◌then◌else◌, total, without, index_of}
 use Rattle.basics.specs.TestLaws.{same_or_not, if_yes, if_no}
 use Rattle.settings.specs.declared.Settings.{Settings}
 use Rattle.settings.specs.NumbersLaws.{legal_settings}
@@ -280,7 +280,7 @@ module _ (k : Plain) (kept : Kept k) where
   pinning_averages : (w : Work) (c : ℕ) (on : Bool) (o : Option Holder) → Averages k w (pinning (λ bytes. bytes) (λ q bytes. bytes) k c on o)
   unfolding pinning
   pinning_averages w c on none = idle_averaging w absent tt
-  pinning_averages w c on (some x) = marked_averaging w (pinned on) tt (λ y. if eqb y.block c then pinned_as on y.marks else y.marks)
+  pinning_averages w c on (some x) = marked_averaging w (pinned on) tt (λ y. when eqb y.block c then pinned_as on y.marks else y.marks)
 
   pub step_averages : (w : Work) (incoming : List ℕ) → Averages k w (plain_step k w incoming)
   unfolding plain_step step access flushing

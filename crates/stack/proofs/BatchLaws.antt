@@ -7,7 +7,7 @@ use mathlib.Core.List.{List, [], ◌∷◌, ◌++◌, map}
 use Rattle.std.proofs.lemmas.List.{length-map}
 use Rattle.std.proofs.Math.Dec.{eqb-suc-zero}
 use Rattle.std.proofs.Math.Facts.{or_no, ltb_yes, ltb_no}
-use Rattle.basics.specs.Basics.{All, if◌then◌else◌, first}
+use Rattle.basics.specs.Basics.{All, when◌then◌else◌, first}
 use Rattle.basics.specs.TestLaws.{first_zero, first_front, first_never}
 use Rattle.settings.specs.declared.Settings.{Settings}
 use Rattle.stack.specs.Stack.{Totals, Plain, Step, plain_step, Work, read, write, purge, flush, tick, invalid, pin, unpin}
@@ -130,7 +130,7 @@ work_inside s w =
     v : ℕ
     v = w % 2 ^ 28
 
-    choose : (x y : Work) (a b : Bool) → (T b → InStore s.m x) → InStore s.m y → InStore s.m (if a && b then x else y)
+    choose : (x y : Work) (a b : Bool) → (T b → InStore s.m x) → InStore s.m y → InStore s.m (when a && b then x else y)
     choose x y true true f g = f tt
     choose x y true false f g = g
     choose x y false b f g = g

@@ -9,7 +9,7 @@ use Rattle.std.proofs.Math.Option.{Option, none, some}
 use Rattle.std.proofs.Math.ListN.{get_elem?}
 use Rattle.std.proofs.Math.Facts.{eqb_yes, eqb_no}
 use Rattle.basics.specs.AllLaws.{all_map, all_image}
-use Rattle.basics.specs.Basics.{All, if◌then◌else◌, without, index_of}
+use Rattle.basics.specs.Basics.{All, when◌then◌else◌, without, index_of}
 use Rattle.settings.specs.declared.Settings.{Settings}
 use Rattle.stack.specs.Counts.{is_new, victim}
 use Rattle.stack.specs.Recency.{Resident, Place, found, unused, replacing, position, raise, halve, replacing_at, found_at, place, asked, settled, lookup, all_pinned, counts_pins}
@@ -53,7 +53,7 @@ module _ {A : Type 0} where
   position_found b [] x e = let z : ◌≡◌ {A = ℕ} 0 1 = cc in absurd (omega arith)
   position_found b (y ∷ l) x e = go (eqb y.block b) eqb_yes e (position_found b l x)
     where
-      go : (t : Bool) → (T t → y.block ≡ b) → get_elem? (y ∷ l) (if t then 0 else suc (position b l)) ≡ some x
+      go : (t : Bool) → (T t → y.block ≡ b) → get_elem? (y ∷ l) (when t then 0 else suc (position b l)) ≡ some x
           → (get_elem? l (position b l) ≡ some x → x.block ≡ b) → x.block ≡ b
       go true f e rec = let same : y ≡ x = cc in ap (λ z. z.block) (sym same) ∙ f tt
       go false f e rec = rec e
@@ -68,7 +68,7 @@ module _ {A : Type 0} where
   position_absent b [] e = tt
   position_absent b (y ∷ l) e = go (eqb y.block b) eqb_no e (position_absent b l)
     where
-      go : (t : Bool) → (T (not t) → y.block ≢ b) → get_elem? (y ∷ l) (if t then 0 else suc (position b l)) ≡ none
+      go : (t : Bool) → (T (not t) → y.block ≢ b) → get_elem? (y ∷ l) (when t then 0 else suc (position b l)) ≡ none
           → (get_elem? l (position b l) ≡ none → Absent b l) → Absent b (y ∷ l)
       go true f e rec = let z : ◌≡◌ {A = ℕ} 0 1 = cc in absurd (omega arith)
       go false f e rec = (f tt, rec e)
@@ -102,7 +102,7 @@ module _ {A : Type 0} where
         v : ℕ
         v = victim s (counts_pins l)
 
-        go : (t : Bool) → AtPlace b (if t then unused l else replacing_at v l (get_elem? l v))
+        go : (t : Bool) → AtPlace b (when t then unused l else replacing_at v l (get_elem? l v))
         go true = (a, d)
         go false = replacing_blocks v (get_elem? l v) refl a
     found_blocks (some x) e = go (is_new s (position b l))
@@ -110,7 +110,7 @@ module _ {A : Type 0} where
         same : x.block ≡ b
         same = position_found b l x e
 
-        go : (t : Bool) → AtPlace b (found (if t then x else raise x) (without (position b l) l))
+        go : (t : Bool) → AtPlace b (found (when t then x else raise x) (without (position b l) l))
         go true = (same, subst (λ n. Absent n (without (position b l) l)) same (Differ_at l (position b l) x d e), Differ_without l (position b l) d)
         go false = (same, subst (λ n. Absent n (without (position b l) l)) same (Differ_at l (position b l) x d e), Differ_without l (position b l) d)
 

@@ -11,7 +11,7 @@ use Rattle.std.proofs.Math.Option.{Option, none, some}
 use Rattle.std.proofs.Math.Dec.{T}
 use Rattle.std.proofs.Math.Facts.{T_not, yes_eqb, no_eqb}
 use Rattle.basics.specs.AllLaws.{all_those}
-use Rattle.basics.specs.Basics.{All, if◌then◌else◌, bit, without, block_at}
+use Rattle.basics.specs.Basics.{All, when◌then◌else◌, bit, without, block_at}
 use Rattle.basics.specs.Lists.{those}
 use Rattle.basics.specs.TestLaws.{split, same_or_not, if_no}
 use Rattle.stack.specs.declared.Marks.{Marks}
@@ -118,7 +118,7 @@ module _ (k : Plain) (kept : Kept k) (sizes : All (Sized itself k.settings.b (le
     store_at q = saved_all itself B (leaving q) k.store
 
     abbrev bytes_at : Place (List ℕ) → List ℕ
-    bytes_at q = if written then incoming else present itself B c (store_at q) q
+    bytes_at q = when written then incoming else present itself B c (store_at q) q
 
     -- the other blocks' bytes stay
     other : c ≢ b → T (not (writes_to b w))
@@ -139,7 +139,7 @@ module _ (k : Plain) (kept : Kept k) (sizes : All (Sized itself k.settings.b (le
           go false t u = refl
 
       asked_filled : (d n : ℕ) (m : Marks) (bytes had : List ℕ) → bytes ≡ had
-          → Filled b w (record { block = d; count = n; marks = asked_marks written m; held = if written then incoming else bytes }) had
+          → Filled b w (record { block = d; count = n; marks = asked_marks written m; held = when written then incoming else bytes }) had
       asked_filled d n m bytes had e =
           record {
             modified = λ t. or_yes m.modified (subst T here t);
@@ -200,7 +200,7 @@ module _ (k : Plain) (kept : Kept k) (sizes : All (Sized itself k.settings.b (le
         (asked_fate q (kept_placed k kept c) (place_blocks s c l kept.differ))
       where
         settle : {before after : List ℕ} {o : Option Holder} (next : List Holder) (t : Bool) → Fate b w before after o (lookup b next)
-            → Fate b w before after o (lookup b (if t then map halve next else next))
+            → Fate b w before after o (lookup b (when t then map halve next else next))
         settle next true fate = rw (lookup_same b halve (λ x. refl) next) (halved unswept fate)
         settle next false fate = fate
 

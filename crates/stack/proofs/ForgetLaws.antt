@@ -4,7 +4,7 @@ use Rattle.std.specs.Prelude.{ℕ, ◌+◌, ◌-◌, ◌*◌, ◌≤◌, ◌<◌
 use Rattle.std.proofs.Common.{arith, sym, ap₂}
 use Rattle.std.proofs.Math.ListN.{length-replicate}
 use Rattle.basics.specs.AllLaws.{all_map}
-use Rattle.basics.specs.Basics.{All, if◌then◌else◌, put_block}
+use Rattle.basics.specs.Basics.{All, when◌then◌else◌, put_block}
 use Rattle.basics.specs.TestLaws.{split}
 use Rattle.settings.specs.declared.Settings.{Settings}
 use Rattle.settings.specs.NumbersLaws.{old_fits}
@@ -131,7 +131,7 @@ module _ (c : Cache) (proper : Proper c) (b : ℕ) (inside : b < c.stack.setting
   put_length = go written brings
     where
       go : (w : Bool) → (T w → length incoming ≡ s.b) → length
-          (if w then incoming else present f s.b b (store_of f c.stack b written incoming) q) ≡ s.b
+          (when w then incoming else present f s.b b (store_of f c.stack b written incoming) q) ≡ s.b
       go true h = h tt
       go false h =
           length_present s c.bytes proper.bytes l proper.residents.fit b inside (store_of f c.stack b written incoming)

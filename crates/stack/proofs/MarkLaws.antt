@@ -2,7 +2,7 @@
 -- left only where modified is.
 use Rattle.std.specs.Prelude.{◌+◌, ◌≤◌, ◌≡◌, refl, Bool, true, false, ◌&&◌, ◌||◌, not, T}
 use Rattle.std.proofs.Common.{arith, ap, subst}
-use Rattle.basics.specs.Basics.{if◌then◌else◌, bit}
+use Rattle.basics.specs.Basics.{when◌then◌else◌, bit}
 use Rattle.basics.specs.TestLaws.{if_yes}
 use Rattle.stack.specs.declared.Marks.{Marks}
 use Rattle.stack.specs.Recency.{asked_marks, cleared, due, saw_tick, ticked}
@@ -55,12 +55,12 @@ tick_out =
       seen = λ m. seen m (due m);
     }
   where
-    cleans : (m : Marks) (a t : Bool) → m.modified ≡ a → bit (a && t) + bit (if a && t then cleared m else saw_tick m).modified ≡ bit a
+    cleans : (m : Marks) (a t : Bool) → m.modified ≡ a → bit (a && t) + bit (when a && t then cleared m else saw_tick m).modified ≡ bit a
     cleans m true true e = refl
     cleans m true false e = ap (λ a. 0 + bit a) e
     cleans m false t e = ap (λ a. 0 + bit a) e
 
-    seen : (m : Marks) (d : Bool) → T (if d then cleared m else saw_tick m).seen → T (if d then cleared m else saw_tick m).modified
+    seen : (m : Marks) (d : Bool) → T (when d then cleared m else saw_tick m).seen → T (when d then cleared m else saw_tick m).modified
     seen m true t = t
     seen m false t = t
 
@@ -68,7 +68,7 @@ tick_out =
 pub tick_seen_lem : (m : Marks) → T (not (due m)) → T (ticked m).modified → bit m.seen + 1 ≤ bit (ticked m).seen
 tick_seen_lem m = go m.modified m.seen refl
   where
-    go : (a t : Bool) → m.modified ≡ a → let after = (if a && t then cleared m else saw_tick m) in
+    go : (a t : Bool) → m.modified ≡ a → let after = (when a && t then cleared m else saw_tick m) in
         T (not (a && t)) → T after.modified → bit t + 1 ≤ bit after.seen
     go true true e spared u = absurd spared
     go true false e spared u = rw e (omega arith)

@@ -11,7 +11,7 @@ use Rattle.std.proofs.Math.ListN.{length, get_or}
 use Rattle.std.proofs.Math.Dec.{leb}
 use Rattle.std.proofs.Math.Facts.{and_yes, leb_yes, leb_no, eqb_yes}
 use borrow.Author.Tests.{le-leb, lt-leb, eq-eqb, ne_eqb}
-use Rattle.basics.specs.Basics.{All, bit, if◌then◌else◌, within, total, index_of}
+use Rattle.basics.specs.Basics.{All, bit, when◌then◌else◌, within, total, index_of}
 use Rattle.basics.specs.AllLaws.{all_map}
 use Rattle.basics.specs.TestLaws.{split}
 use Rattle.basics.specs.TotalLaws.{sum, sum_join, sum_same, sum_ones, sum_map, sum_swap}
@@ -114,7 +114,7 @@ unfolding total index_of
 index_found [] e = absurd (omega arith)
 index_found (y ∷ ys) e = go (ℕ_discrete y 1) (index_found ys)
   where
-    go : Dec (y ≡ 1) → (total ys ≡ 1 → get_or ys (index_of 1 ys) 0 ≡ 1) → get_or (y ∷ ys) (if eqb y 1 then 0 else suc (index_of 1 ys)) 0 ≡ 1
+    go : Dec (y ≡ 1) → (total ys ≡ 1 → get_or ys (index_of 1 ys) 0 ≡ 1) → get_or (y ∷ ys) (when eqb y 1 then 0 else suc (index_of 1 ys)) 0 ≡ 1
     go (yes one) later = rw (eq-eqb y 1 one) one
     go (no other) later = rw (ne_eqb y 1 other) (later (omega arith))
 
@@ -169,7 +169,7 @@ plus_one [] (y ∷ ys) long e = absurd (omega arith)
 plus_one (x ∷ xs) (y ∷ ys) long e = go (ℕ_discrete y 1) (plus_one xs ys (omega arith))
   where
     go : Dec (y ≡ 1) → (total ys ≡ 1 → plus xs ys ≡ raised xs (index_of 1 ys) 1)
-        → (x + y) ∷ plus xs ys ≡ raised (x ∷ xs) (if eqb y 1 then 0 else suc (index_of 1 ys)) 1
+        → (x + y) ∷ plus xs ys ≡ raised (x ∷ xs) (when eqb y 1 then 0 else suc (index_of 1 ys)) 1
     go (yes one) later = rw (eq-eqb y 1 one, one, plus_none xs ys (omega arith))
     go (no other) later = rw (ne_eqb y 1 other, later (omega arith)) (ap (λ n. n ∷ raised xs (index_of 1 ys) 1) (omega arith))
 

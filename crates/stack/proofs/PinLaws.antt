@@ -7,7 +7,7 @@ use Rattle.std.proofs.Math.Option.{Option, none, some}
 use Rattle.std.proofs.Math.ListN.{get_elem?}
 use Rattle.std.proofs.Math.Dec.{T}
 use Rattle.std.proofs.Math.Facts.{T_not}
-use Rattle.basics.specs.Basics.{if◌then◌else◌, total}
+use Rattle.basics.specs.Basics.{when◌then◌else◌, total}
 use Rattle.settings.specs.declared.Settings.{Settings}
 use Rattle.stack.specs.Counts.{victim}
 use Rattle.stack.specs.Recency.{Resident, Place, found, unused, replacing, all_pinned, counts_pins, position, raise, replacing_at, found_at, place, settled, lookup, asked, refuses, halves}
@@ -31,7 +31,7 @@ missed {A} s b l e =
     subst (λ o. T (is_miss (found_at s (position b l) l o))) (sym e)
     (go (ltb (length l) s.n) (get_elem? l (victim s (counts_pins l))))
   where
-    go : (t : Bool) (o : Option (Resident A)) → T (is_miss (if t then unused l else replacing_at (victim s (counts_pins l)) l o))
+    go : (t : Bool) (o : Option (Resident A)) → T (is_miss (when t then unused l else replacing_at (victim s (counts_pins l)) l o))
     go true o = tt
     go false none = tt
     go false (some x) = tt

@@ -8,7 +8,7 @@ use Rattle.std.proofs.Math.Option.{Option, none, some}
 use Rattle.std.proofs.Math.ListN.{length, get_elem?}
 use Rattle.std.proofs.lemmas.List.{length-map}
 use Rattle.std.proofs.Math.Dec.{T}
-use Rattle.basics.specs.Basics.{All, if◌then◌else◌, without}
+use Rattle.basics.specs.Basics.{All, when◌then◌else◌, without}
 use Rattle.settings.specs.declared.Settings.{Settings}
 use Rattle.stack.specs.Counts.{is_new, victim, chains, count_at, unpinned_at, chains_demanded, Legal}
 use Rattle.stack.proofs.CountsLaws.{Outcome, all_pinned_lem, a_victim, outcome, chains_right}
@@ -83,12 +83,12 @@ module _ {A : Type 0} (s : Settings) (l : List (Resident A)) (some_old : 1 ≤ s
       let (x, e) = getElem?-some l p (omega (arith, same_length)) in
       subst (λ (y : ℕ × Bool). 1 ≤ y.0) (sym (pair_at p x e)) (all_found (λ y. Legal y.count) l p x legal e).0
 
-  raise_legal : (x : Resident A) → Legal x.count → Legal (if ltb x.count 65535 then x.count + 1 else x.count)
-      × ((if ltb x.count 65535 then x.count + 1 else x.count) ≤ x.count + 1)
+  raise_legal : (x : Resident A) → Legal x.count → Legal (when ltb x.count 65535 then x.count + 1 else x.count)
+      × ((when ltb x.count 65535 then x.count + 1 else x.count) ≤ x.count + 1)
   raise_legal x h = go (ltb x.count 65535) (ltb→lt x.count 65535)
     where
-      go : (b : Bool) → (T b → x.count < 65535) → Legal (if b then x.count + 1 else x.count)
-          × ((if b then x.count + 1 else x.count) ≤ x.count + 1)
+      go : (b : Bool) → (T b → x.count < 65535) → Legal (when b then x.count + 1 else x.count)
+          × ((when b then x.count + 1 else x.count) ≤ x.count + 1)
       go true f = let g = f tt in ((omega arith, omega arith), omega arith)
       go false f = (h, omega arith)
 
@@ -117,7 +117,7 @@ module _ {A : Type 0} (s : Settings) (l : List (Resident A)) (some_old : 1 ≤ s
     found_placed none e = go (ltb (length l) s.n) (ltb→lt (length l) s.n) (nltb→le (length l) s.n)
       where
         go : (b : Bool) → (T b → length l < s.n) → (T (not b) → s.n ≤ length l)
-            → Placed s l (if b then unused l else replacing_at (victim s (counts_pins l)) l (get_elem? l (victim s (counts_pins l))))
+            → Placed s l (when b then unused l else replacing_at (victim s (counts_pins l)) l (get_elem? l (victim s (counts_pins l))))
         go true f g = enters (f tt)
         go false f g = let h = g tt in replacing_placed (omega arith)
     found_placed (some x) e = go (is_new s p)
@@ -125,7 +125,7 @@ module _ {A : Type 0} (s : Settings) (l : List (Resident A)) (some_old : 1 ≤ s
         ok : Legal x.count
         ok = all_found (λ y. Legal y.count) l p x legal e
 
-        go : (b : Bool) → Placed s l (found (if b then x else raise x) (without p l))
+        go : (b : Bool) → Placed s l (found (when b then x else raise x) (without p l))
         go true = hits p x x.count e ok (omega arith)
         go false = let r = raise_legal x ok in hits p x _ e r.0 r.1
 

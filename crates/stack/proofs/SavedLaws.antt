@@ -8,7 +8,7 @@ use Rattle.std.proofs.Math.Option.{some}
 use Rattle.std.proofs.Math.ListN.{length}
 use Rattle.std.proofs.Math.Dec.{T}
 use Rattle.basics.specs.AllLaws.{all_those}
-use Rattle.basics.specs.Basics.{All, if◌then◌else◌, block_at, put_block}
+use Rattle.basics.specs.Basics.{All, when◌then◌else◌, block_at, put_block}
 use Rattle.basics.specs.Lists.{those}
 use Rattle.basics.specs.TestLaws.{split, same_or_not, if_yes, if_no}
 use Rattle.stack.proofs.BufferLaws.{length_put_block, put_same, put_other}
@@ -25,8 +25,8 @@ module _ {A : Type 0} (bytes_of : A → List ℕ) (B n : ℕ) where
   -- ---- one
 
   module _ (x : Resident A) (store : List ℕ) (size : Sized x) (long : length store ≡ n) where
-    abbrev when : Bool → List ℕ
-    when m = if m then put_block B x.block (bytes_of x.held) store else store
+    abbrev saved_where : Bool → List ℕ
+    saved_where m = when m then put_block B x.block (bytes_of x.held) store else store
 
     ends : x.block * B + B ≤ length store
     ends = omega (arith, size.1)
@@ -35,7 +35,7 @@ module _ {A : Type 0} (bytes_of : A → List ℕ) (B n : ℕ) where
     unfolding saved
     saved_length = go x.marks.modified
       where
-        go : (m : Bool) → length (when m) ≡ n
+        go : (m : Bool) → length (saved_where m) ≡ n
         go true = length_put_block B x.block (bytes_of x.held) store size.0 ends ∙ long
         go false = long
 
@@ -43,7 +43,7 @@ module _ {A : Type 0} (bytes_of : A → List ℕ) (B n : ℕ) where
     unfolding saved
     saved_other b ne = go x.marks.modified
       where
-        go : (m : Bool) → block_at B b (when m) ≡ block_at B b store
+        go : (m : Bool) → block_at B b (saved_where m) ≡ block_at B b store
         go true = put_other B x.block b (bytes_of x.held) store size.0 ends ne
         go false = refl
 
@@ -51,8 +51,8 @@ module _ {A : Type 0} (bytes_of : A → List ℕ) (B n : ℕ) where
     unfolding saved
     saved_same b here = go x.marks.modified
       where
-        go : (m : Bool) → T m → block_at B b (when m) ≡ bytes_of x.held
-        go true t = subst (λ c. block_at B c (when true) ≡ bytes_of x.held) here (put_same B x.block (bytes_of x.held) store size.0 ends)
+        go : (m : Bool) → T m → block_at B b (saved_where m) ≡ bytes_of x.held
+        go true t = subst (λ c. block_at B c (saved_where true) ≡ bytes_of x.held) here (put_same B x.block (bytes_of x.held) store size.0 ends)
         go false t = absurd t
 
     pub saved_unmodified : T (not x.marks.modified) → saved bytes_of B x store ≡ store

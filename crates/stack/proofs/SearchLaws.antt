@@ -8,7 +8,7 @@ use Rattle.std.proofs.Common.{◌∙◌, inl, inr}
 use Rattle.std.proofs.Math.ListN.{length}
 use Rattle.std.proofs.Math.Dec.{ltb, T, ltb→lt, nltb→le, lt→ltb}
 use Rattle.std.proofs.Math.Facts.{and_yes, yes_and, not_T, eqb_yes, yes_eqb}
-use Rattle.basics.specs.Basics.{if◌then◌else◌}
+use Rattle.basics.specs.Basics.{when◌then◌else◌}
 use Rattle.basics.specs.TestLaws.{split, if_yes, if_no}
 use Rattle.settings.specs.declared.Settings.{Settings}
 use Rattle.stack.specs.Counts.{is_old, least_old, greatest, victim, count_at, unpinned_at}
@@ -45,7 +45,7 @@ least_recent xs = greatest (unpinned_at xs) (length xs) (length xs)
 unfoldable pub search : Settings → List (ℕ × Bool) → ℕ → ℕ → ℕ
 unfolding last_of least_recent
 search s xs i zero = least_recent xs
-search s xs i (suc n) = let further = search s xs (suc i) n in if ltb (last_of s xs i) (length xs) then last_of s xs i else further
+search s xs i (suc n) = let further = search s xs (suc i) n in when ltb (last_of s xs i) (length xs) then last_of s xs i else further
 
 module _ (s : Settings) (xs : List (ℕ × Bool)) (full : length xs ≡ s.n) (some : 1 ≤ s.nold) (fits : s.nold ≤ s.n) (few : s.cmax ≤ 64)
     (bound : (p : ℕ) → p < length xs → 1 ≤ count_at xs p) where
@@ -84,7 +84,7 @@ module _ (s : Settings) (xs : List (ℕ × Bool)) (full : length xs ≡ s.n) (so
       (λ t. let h : i < c = ltb→lt i c t in
       if_no (ltb (last_of s xs i) (length xs)) (last_of s xs i) (search s xs (suc i) n) (not_below i h) ∙ search_from (suc i) n h (omega arith))
       (λ t. let same : c ≡ i = omega (arith, nltb→le i c t) in
-      subst (λ x. (if ltb (last_of s xs x) (length xs) then last_of s xs x else search s xs (suc i) n) ≡ victim s xs) same
+      subst (λ x. (when ltb (last_of s xs x) (length xs) then last_of s xs x else search s xs (suc i) n) ≡ victim s xs) same
       (let v = at_smallest (omega arith) in
       if_yes (ltb (last_of s xs c) (length xs)) (last_of s xs c) (search s xs (suc i) n) v.0 ∙ v.1))
 

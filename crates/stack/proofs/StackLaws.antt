@@ -7,7 +7,7 @@ use mathlib.Core.List.{List, [], ◌∷◌, map}
 use Rattle.std.proofs.Math.Option
 use Rattle.std.proofs.Math.Option.{Option, none, some}
 use Rattle.std.proofs.Math.ListN.{length-map}
-use Rattle.basics.specs.Basics.{if◌then◌else◌, total, bit}
+use Rattle.basics.specs.Basics.{when◌then◌else◌, total, bit}
 use Rattle.basics.specs.Lists.{those}
 use Rattle.stack.specs.declared.Marks.{Marks}
 use Rattle.stack.specs.Recency.{Resident, hold, Place, found, unused, replacing, place, lookup, all_pinned, removed, refuses}
@@ -75,7 +75,7 @@ module _ {A : Type 0} (bytes_of : A → List ℕ) (k : Stack A) (b : ℕ) (writt
   store_of = saved_all bytes_of k.settings.b (leaving place_of) k.store
 
   abbrev pub bytes_for : List ℕ
-  bytes_for = if written then incoming else present bytes_of k.settings.b b store_of place_of
+  bytes_for = when written then incoming else present bytes_of k.settings.b b store_of place_of
 
 -- what holds of a purge that is refused and of one that isn't holds of a purge
 pub purging_either : {A : Type 0} (bytes_of : A → List ℕ) (keep : Place A → List ℕ → A) (P : Step (Stack A) → Type 0) (k : Stack A) (b : ℕ)
@@ -122,8 +122,8 @@ module _ {A B : Type 0} (bytes_of : A → List ℕ) (bytesOf' : B → List ℕ) 
       gone : Answer
       gone = purged x.marks.modified
 
-      go : (p : Bool) → (if p then idle (hold_stack f k) purge_refused else rearranged (hold_stack f k) (removed b (map (hold f) k.residents)) gone)
-          ≡ hold_step f (if p then idle k purge_refused else rearranged k (removed b k.residents) gone)
+      go : (p : Bool) → (when p then idle (hold_stack f k) purge_refused else rearranged (hold_stack f k) (removed b (map (hold f) k.residents)) gone)
+          ≡ hold_step f (when p then idle k purge_refused else rearranged k (removed b k.residents) gone)
       go true = refl
       go false = rw (removed_hold f b k.residents)
 

@@ -6,7 +6,7 @@ use Rattle.std.proofs.Math.Option.{Option, none, some}
 use Rattle.std.proofs.lemmas.List.{length-map}
 use Rattle.std.proofs.Math.Dec.{T}
 use Rattle.basics.specs.AllLaws.{all_image}
-use Rattle.basics.specs.Basics.{if◌then◌else◌, bit}
+use Rattle.basics.specs.Basics.{when◌then◌else◌, bit}
 use Rattle.settings.specs.declared.Settings.{Settings}
 use Rattle.stack.specs.declared.Marks.{Marks}
 use Rattle.stack.specs.Recency.{Resident, Place, found, unused, replacing, position, remarked, place, asked, lookup, removed, all_pinned, pin_at, halves}
@@ -71,7 +71,7 @@ module _ {A : Type 0} (bytes_of : A → List ℕ) (keep : Place A → List ℕ �
       next_few : length next ≤ s.n
       next_few = asked_few s l kept.few kept.legal b w held q at
 
-      read_in : (w : Bool) → k.totals.ins + (if w then 0 else entering q) ≤ k.totals.reads + bit (not w)
+      read_in : (w : Bool) → k.totals.ins + (when w then 0 else entering q) ≤ k.totals.reads + bit (not w)
       read_in true = let h = kept.ins in omega arith
       read_in false = let h = kept.ins in let g = entering_one q in omega arith
 

@@ -7,7 +7,7 @@ use Rattle.std.proofs.Math.Bool.{true, false}
 use mathlib.Core.List.{List, map}
 use Rattle.std.proofs.Math.Option.{Option, none, some}
 use Rattle.basics.specs.AllLaws.{all_image, all_those}
-use Rattle.basics.specs.Basics.{All, if◌then◌else◌, total, block_at}
+use Rattle.basics.specs.Basics.{All, when◌then◌else◌, total, block_at}
 use Rattle.basics.specs.Lists.{those}
 use Rattle.settings.specs.declared.Settings.{Settings}
 use Rattle.settings.specs.NumbersLaws.{LegalSettings, old_fits}
@@ -43,10 +43,10 @@ module _ (k : Plain) (kept : Kept k) (sizes : All (Sized itself k.settings.b (le
   l = k.residents
 
   module _ (c : ℕ) (inside : c < k.settings.m) (written : Bool) (incoming : List ℕ) (brings : T written → length incoming ≡ B) where
-    filled : (bytes : List ℕ) → length bytes ≡ B → length (if written then incoming else bytes) ≡ B
+    filled : (bytes : List ℕ) → length bytes ≡ B → length (when written then incoming else bytes) ≡ B
     filled bytes e = go written brings
       where
-        go : (v : Bool) → (T v → length incoming ≡ B) → length (if v then incoming else bytes) ≡ B
+        go : (v : Bool) → (T v → length incoming ≡ B) → length (when v then incoming else bytes) ≡ B
         go true h = h tt
         go false h = e
 
@@ -54,7 +54,7 @@ module _ (k : Plain) (kept : Kept k) (sizes : All (Sized itself k.settings.b (le
     ends = omega (arith, block_ends B c k.settings.m inside)
 
     asked_sized : (q : Place (List ℕ)) → Placed k.settings l q → let store = saved_all itself B (leaving q) k.store in
-        All (Sized itself B n) (asked c written (if written then incoming else present itself B c store q) q) × (length store ≡ n)
+        All (Sized itself B n) (asked c written (when written then incoming else present itself B c store q) q) × (length store ≡ n)
     unfolding asked leaving present saved_all
     asked_sized q (hits p x m e ok up) =
         let size = all_found (Sized itself B n) l p x sizes e in
@@ -74,7 +74,7 @@ module _ (k : Plain) (kept : Kept k) (sizes : All (Sized itself k.settings.b (le
         let (fit, long) = asked_sized q (kept_placed k kept c) in
         (settle next fit (halves s q next), long)
       where
-        settle : (next : List Holder) → All (Sized itself B n) next → (t : Bool) → All (Sized itself B n) (if t then map halve next else next)
+        settle : (next : List Holder) → All (Sized itself B n) next → (t : Bool) → All (Sized itself B n) (when t then map halve next else next)
         settle next fit true = all_image (Sized itself B n) halve next fit
         settle next fit false = fit
 

@@ -2,7 +2,7 @@
 -- every count is then. Statements only.
 use Rattle.std.specs.Prelude.{ℕ, ◌+◌, ◌*◌, ◌/◌, ◌≤◌, ◌≡◌, Bool, List, map, length, drop, ltb}
 use Rattle.std.proofs.Math.Option.{some}
-use Rattle.basics.specs.Basics.{if◌then◌else◌, total}
+use Rattle.basics.specs.Basics.{when◌then◌else◌, total}
 use Rattle.settings.specs.declared.Settings.{Settings}
 use Rattle.settings.specs.Numbers.{settings_number}
 use Rattle.stack.specs.Recency.{Resident, counts, lookup, removed}
@@ -22,7 +22,7 @@ Asks b invalid = ⊥
 
 -- a count then: where counts were halved C/2 rounded up, once
 abbrev pub count_then : Bool → ℕ → ℕ
-count_then halved c = if halved then (c + 1) / 2 else c
+count_then halved c = when halved then (c + 1) / 2 else c
 
 -- Of a word with the stack k before it, its answer, and the residents after it.
 module _ (k : Plain) where

@@ -1,7 +1,7 @@
 -- The last bytes of every block (SCOPE, "Reads that don't depend on settings"), and what reads give by them: from work words, the bytes
 -- that they bring and the first store alone. No cache has a part in it. Assumes nothing.
 use Rattle.std.specs.Prelude.{ℕ, ◌*◌, ◌/◌, ◌^◌, Bool, true, false, List, [], ◌∷◌, ◌++◌, map, take, drop, eqb}
-use Rattle.basics.specs.Basics.{if◌then◌else◌, bit, total, block_at}
+use Rattle.basics.specs.Basics.{when◌then◌else◌, bit, total, block_at}
 use Rattle.stack.specs.Stack.{Work, read, write, purge, flush, tick, pin, unpin, invalid}
 use Rattle.stack.specs.Batch.{is_write}
 
@@ -62,7 +62,7 @@ writes_to b invalid = false
 
 -- after a word, which brings these bytes if it is a write
 abbrev pub last_after : Last → Work → List ℕ → Last
-last_after last w bytes b = if writes_to b w then bytes else last b
+last_after last w bytes b = when writes_to b w then bytes else last b
 
 -- what a word gives: a read the last bytes of its block, every other word nothing
 abbrev pub last_given : Last → Work → List (List ℕ)

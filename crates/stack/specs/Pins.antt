@@ -2,7 +2,7 @@
 -- is found where nothing is pinned. Statements only.
 use Rattle.std.specs.Prelude.{ℕ, ◌+◌, ◌-◌, ◌*◌, ◌≤◌, ◌≡◌, ◌≢◌, Bool, false, ◌&&◌, List, map, length, drop, replicate, get_or, leb, eqb, T}
 use Rattle.std.proofs.Math.Option.{none, some}
-use Rattle.basics.specs.Basics.{All, if◌then◌else◌, member}
+use Rattle.basics.specs.Basics.{All, when◌then◌else◌, member}
 use Rattle.settings.specs.declared.Settings.{Settings}
 use Rattle.settings.specs.Numbers.{settings_number}
 use Rattle.stack.specs.Counts.{is_old, least, greatest, victim, looked, chains}
@@ -71,7 +71,7 @@ unfoldable pub victim_by_counts : Settings → List ℕ → ℕ
 unfolding least greatest
 victim_by_counts s cs =
     let c = least 65535 (drop (s.n - s.nold) cs) in
-    if leb c s.cmax then greatest (λ p. is_old s p && eqb (get_or cs p 0) c) (length cs) 0 else s.n - 1
+    when leb c s.cmax then greatest (λ p. is_old s p && eqb (get_or cs p 0) c) (length cs) 0 else s.n - 1
 
 unfoldable pub chains_by_counts : Settings → List ℕ → ℕ
 unfolding looked member
