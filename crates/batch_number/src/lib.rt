@@ -21,6 +21,9 @@ const TICK: u32 = 5;
 
 const UNPIN: u32 = 7;
 
+// The last of the kinds that have value 0.
+const VALUELESS: u32 = TICK;
+
 // How many words of a batch are reads, writes and invalid.
 #[derive(Clone, Copy)]
 struct Tally {
@@ -48,7 +51,7 @@ pub fn kind_of(s: Settings, word: u32) -> u32
     if kind <= PURGE {
         return block_kind(s, kind, value);
     }
-    if kind <= TICK {
+    if kind <= VALUELESS {
         if value == 0 {
             return kind;
         }
@@ -134,10 +137,11 @@ pub fn batch_number(s: Settings, references: u64, work: &[u32], lent: Lengths) -
     ensures { result ≡ first (batch_tests s references work.now lent) }
 {
     let memory = memory_number(s, lent.bytes, lent.store);
+    let many = work.len() > MOST_WORDS;
     if memory != 0 {
         return memory;
     }
-    if work.len() > MOST_WORDS {
+    if many {
         return 8;
     }
     let t = count(s, work);
