@@ -199,11 +199,11 @@ type Edit = (&'static str, &'static str, String);
 const HERE: &str = "check_lists::list_test";
 const LISTS: &str = "check_lists";
 const USES: &str = "ghost use Rattle.layout.specs.Addresses.{COUNT};\n";
-const BOUND: &str = "    let own = fnv::hash(block) & (nb - 1);\n";
+const BOUND: &str = "    let own = fnv::hash(block) & (buckets.many - 1);\n";
 const COMPARED: &str = "    if own != b {\n";
-const SEARCHED: &str = "    no_second_resident(d, entries, start, own, block, ahead)\n";
-const TEST: &str = "!list_test(d, entries, start, n, nb, b, budget - left, e)";
-const WORDS_VALUE: &str = "// The value of the word with that number";
+const SEARCHED: &str = "    no_second_resident(d, entries, buckets, own, block, ahead)\n";
+const TEST: &str = "!list_test(d, entries, n, buckets, b, ahead, e)";
+const WORDS_VALUE: &str = "// The value of the word at i";
 
 fn instead(name: &'static str, text: &'static str, other: &str) -> Edit {
     (name, text, other.into())
@@ -215,7 +215,7 @@ fn before(name: &'static str, text: &'static str, added: &str) -> Edit {
 
 /// A second hash where the first is compared.
 fn compared_with(second: &str) -> Edit {
-    instead(LISTS, COMPARED, &format!("    if own != b || {second} & (nb - 1) != b {{\n"))
+    instead(LISTS, COMPARED, &format!("    if own != b || {second} & (buckets.many - 1) != b {{\n"))
 }
 
 /// Asserts the judgement of the altered sources.
@@ -272,15 +272,15 @@ fn a_second_hash_behind_a_call_is_noticed() {
     let by_constant = [before(LISTS, USES, constant), compared_with("MIX(block)")];
     second("a constant", &by_constant, "check_lists::MIX");
     let method = "    pub fn mixed(self) -> u32 {\n        fnv::hash(self.n)\n    }\n\n";
-    let calls_it = "    let nb = settings::buckets(n) + s.mixed() % 1;\n";
+    let calls_it = "        many: settings::buckets(legal.of.n) + legal.of.mixed() % 1,\n";
     let by_method = [
         before("settings", "    pub fn unix(", method),
-        instead("soundness", "    let nb = settings::buckets(n);\n", calls_it),
+        instead("soundness", "        many: settings::buckets(legal.of.n),\n", calls_it),
     ];
     second("a method", &by_method, "settings::Settings::mixed");
     let twice = instead(LISTS, TEST, &format!("{TEST} || {TEST}"));
     wrong("called twice", &[twice.clone()], Fault::Ways(2));
-    let buckets = "    let k = bucket(d, entries, start, n, nb, b, left);\n";
+    let buckets = "        let Some(rest) = bucket(d, entries, n, buckets, b, left) else {\n            return false;\n        };\n";
     let both = [twice, instead(LISTS, buckets, &buckets.repeat(2))];
     wrong("called twice by one that is", &both, Fault::Ways(4));
 }
@@ -295,12 +295,13 @@ fn a_hash_in_another_loop_is_noticed() {
     };
     let in_a_loop = instead(LISTS, TEST, &format!("{{ while {TEST} {{}} false }}"));
     wrong("called in a loop", &[in_a_loop], loops("check_lists::bucket"));
-    wrong("hashed in a loop", &[before(LISTS, BOUND, "    while block > nb {}\n")], loops(HERE));
+    wrong("hashed in a loop", &[before(LISTS, BOUND, "    while block > n {}\n")], loops(HERE));
 }
 
 #[test]
 fn a_hash_in_the_search_is_noticed() {
-    let in_loop = instead(LISTS, "        more -= 1;\n", "        more -= 1 + fnv::hash(e) % 1;\n");
+    let compared = "        if check_stack::field(entries, layout::BLOCK, e) == block {\n";
+    let in_loop = instead(LISTS, compared, &compared.replace("block {", "block + fnv::hash(e) % 1 {"));
     wrong("in the loop", &[in_loop], Fault::HashedInTheSearch(SEARCH.into()));
     let below = instead("check_stack", "entries[i] % words::VALUES", "entries[i] % words::VALUES + fnv::hash(e) % 1");
     wrong("below the search", &[below], Fault::HashedInTheSearch("check_stack::field".into()));
@@ -319,22 +320,22 @@ fn a_bucket_that_is_not_kept_is_noticed() {
     wrong("the search takes another bucket", &[instead(LISTS, SEARCHED, &by_b)], Fault::NotSearched(name()));
     let in_the_condition = [
         instead(LISTS, BOUND, ""),
-        instead(LISTS, COMPARED, "    if fnv::hash(block) & (nb - 1) != b {\n"),
+        instead(LISTS, COMPARED, "    if fnv::hash(block) & (buckets.many - 1) != b {\n"),
         instead(LISTS, SEARCHED, &by_b),
     ];
     wrong("no bucket is bound", &in_the_condition, Fault::Bindings(0));
     wrong("not compared", &[instead(LISTS, COMPARED, "    if own > b {\n")], Fault::NotCompared(name()));
     wrong("bound anew", &[before(LISTS, SEARCHED, "    let own = b;\n")], Fault::Rebound(name()));
     wrong("can change", &[instead(LISTS, BOUND, &BOUND.replace("own", "mut own"))], Fault::Rebound(name()));
-    let again = before(LISTS, SEARCHED, "    no_second_resident(d, entries, start, b, block, ahead);\n");
+    let again = before(LISTS, SEARCHED, "    no_second_resident(d, entries, buckets, b, block, ahead);\n");
     wrong("searched twice", &[again], Fault::SearchedFrom(vec![HERE.into(), HERE.into()]));
     let walk = "        if !list_test(";
-    let from_the_walk = before(LISTS, walk, "        no_second_resident(d, entries, start, nb, e, left);\n");
+    let from_the_walk = before(LISTS, walk, "        no_second_resident(d, entries, buckets, n, e, ahead);\n");
     let from = vec!["check_lists::bucket".to_string(), HERE.into()];
     wrong("searched from elsewhere", &[from_the_walk], Fault::SearchedFrom(from));
     let step = "    let more = (block + 2166136261) * 16_777_619;\n";
     wrong("written out", &[before(LISTS, BOUND, step)], Fault::WrittenOut(HERE.into()));
-    let other = instead(LISTS, BOUND, "    let own = fnv::wrapping_mul(block, nb) & (nb - 1);\n");
+    let other = instead(LISTS, BOUND, "    let own = fnv::wrapping_mul(block, n) & (buckets.many - 1);\n");
     wrong("another function", &[other], Fault::OtherOfTheCrate(HERE.into(), "fnv::wrapping_mul".into()));
 }
 

@@ -27,7 +27,7 @@ fn callers_of_lookup_take_the_entry_by_let_else() {
         for line in text.lines().filter(|line| line.contains("directory::lookup(")) {
             let line = line.trim();
             assert!(
-                line.starts_with("let Found::At(e) = directory::lookup(") && line.ends_with("else {"),
+                line.starts_with("let Some(") && line.contains(") = directory::lookup(") && line.ends_with("else {"),
                 "{}: {line}",
                 path.display()
             );
@@ -35,17 +35,17 @@ fn callers_of_lookup_take_the_entry_by_let_else() {
         }
     }
     assert_eq!(callers, 4, "a read or write, a purge, a pin, a look");
-    let layout = source("layout/src/lib.rt");
-    assert!(layout.contains("pub enum Found {\n    At(u32),\n    Absent,\n}"));
+    let directory = source("directory/src/lib.rt");
+    assert!(directory.contains("pub fn lookup(dir: &[u32], block: u32, s: Settings) -> Option<u32>"));
 }
 
 /// The victim search, and what hands its outcome on: each call is taken by `let .. else`, all pinned first.
 #[test]
 fn callers_of_the_victim_search_take_it_by_let_else() {
     for (name, call, pattern, callers) in [
-        ("directory", "search::victim(", "let Victim::At(picked) = search::victim(", 1),
-        ("accesses", "directory::replace(", "let Replacement::By(r) = directory::replace(", 1),
-        ("accesses", " access(", "let Place::At(a) = access(", 2),
+        ("directory", "search::victim(", "let Some(picked) = search::victim(", 1),
+        ("accesses", "directory::replace(", "let Some(r) = directory::replace(", 1),
+        ("accesses", " access(", "let Some(a) = access(", 2),
     ] {
         let text = source(&format!("{name}/src/lib.rt"));
         let calls = text.lines().map(str::trim).filter(|line| line.contains(call) && !line.contains("fn "));
@@ -53,9 +53,10 @@ fn callers_of_the_victim_search_take_it_by_let_else() {
         assert_eq!(calls.len(), callers, "{name}: {calls:?}");
         assert!(calls.iter().all(|line| line.starts_with(pattern) && line.ends_with("else {")), "{name}: {calls:?}");
     }
-    let victim = "pub enum Victim {\n    At(Picked),\n    AllPinned,\n}";
-    let replacement = "pub enum Replacement {\n    By(Replaced),\n    AllPinned,\n}";
-    assert!(source("word_ops/src/lib.rt").contains(victim) && source("promises/src/lib.rt").contains(replacement));
+    let search = source("search/src/lib.rt");
+    assert!(function(&search, "pub fn victim(").contains("-> Option<Picked>"));
+    let directory = source("directory/src/lib.rt");
+    assert!(function(&directory, "pub fn replace(").contains("-> Option<Replaced>"));
 }
 
 #[test]
@@ -93,7 +94,7 @@ fn words_are_slices_of_u32() {
     for parameter in ["dir: &mut [u32]", "work: &[u32]", "answers: &mut [u32]", "store: &mut [u8]", "incoming: &[u8]"] {
         assert!(batch.contains(parameter), "{parameter}");
     }
-    assert!(source("fresh/src/lib.rt").contains("pub fn fresh(s: Settings, dir: &mut [u32]) -> u32"));
+    assert!(source("fresh/src/lib.rt").contains("pub fn fresh(s: Settings, dir: &mut [u32]) -> Result<(), Refusal>"));
 }
 
 #[test]
@@ -125,7 +126,7 @@ fn count_class_by_a_match_with_ranges() {
         assert_eq!(occupancy.matches(range).count(), 1, "{range}");
     }
     // the check is the only condition, and there is one walk along the stack
-    assert_eq!((occupancy.matches("if ").count(), occupancy.matches("while ").count()), (1, 1));
+    assert_eq!((occupancy.matches("if ").count(), occupancy.matches("for ").count()), (1, 1));
     assert_eq!(occupancy.matches("directory::next(").count(), 1);
 }
 fn uncommented(line: &str) -> String {
@@ -152,7 +153,7 @@ fn the_cache_never_sees_a_link() {
         "CHAIN_TO_TAIL", "NEXT_SYNONYM",
     ];
     let layout = source("layout/src/lib.rt");
-    assert!(links.iter().all(|link| layout.contains(&format!("pub const {link}: u32"))));
+    assert!(links.iter().all(|link| layout.contains(&format!("pub const {link}: "))));
     for name in ["cache_steps", "flushing", "accesses", "cache", "looks", "occupancy", "compare"] {
         let listed = listed(name);
         assert!(under.iter().all(|part| !listed.iter().any(|crate_listed| crate_listed == part)), "{name}: {listed:?}");
@@ -180,7 +181,7 @@ fn entry_points_have_no_requires() {
         ("occupancy/src/lib.rt", "pub fn occupancy("),
         ("load/src/lib.rt", "pub fn load("),
         ("load/src/lib.rt", "pub fn load_state("),
-        ("compare/src/lib.rt", "pub fn number("),
+        ("compare/src/lib.rt", "pub fn check("),
         ("compare/src/lib.rt", "pub fn compare("),
         ("settings/src/lib.rt", "pub fn directory_words("),
     ] {
@@ -240,7 +241,7 @@ fn every_public_function_has_two_wrong_programs() {
     }
 }
 
-/// What `blocks::copy` goes its way for. Only speed hangs on it.
+/// What `blocks::move_block` copies by. Only speed hangs on it.
 #[test]
 fn blocks_are_moved_by_memmove() {
     let archive = fs::read(env!("FBR_ARCHIVE")).unwrap();

@@ -23,6 +23,8 @@ struct Function {
     calls: Vec<String>,
     /// Call instructions that no relocation names.
     unnamed: usize,
+    /// Whether it reads a table of places to jump to: then a jump by a register stays inside it.
+    table: bool,
 }
 
 impl Function {
@@ -83,6 +85,8 @@ fn instruction(function: &mut Function, operation: &str, operands: &str) {
             function.frame += amount(operands).unsigned_abs()
         }
         "add" if operands.ends_with(",%rsp") => function.frame = function.frame.max(amount(operands) as u64),
+        // the arms of a match, by a table that the function has read
+        "jmp" if operands.starts_with("*%r") && function.table => (),
         "call" | "jmp" if operands.starts_with('*') => panic!("{operation} {operands}: where to?"),
         "call" => function.unnamed += 1,
         "cmp" | "test" => (),
@@ -99,6 +103,7 @@ fn functions() -> BTreeMap<String, Function> {
             functions.entry(name.clone()).or_default();
         } else if line.contains("R_X86_64_") {
             let function = functions.get_mut(&name).unwrap();
+            function.table |= line.contains(&format!(".rodata.{name}"));
             function.calls.extend(called(line));
             function.unnamed -= usize::from(last == "call");
         } else if let Some((_, text)) = line.split_once(":\t") {

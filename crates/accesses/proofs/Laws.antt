@@ -9,11 +9,13 @@ use mathlib.Core.List.{List}
 use lib.ListN.{length, replicate}
 use lib.Dec.{T}
 use mir.Facts.{T_not}
+use borrow.Author.Tests.{not-true, not-false}
 use Rattle.basics.specs.Basics.{pick, block_at, put_block}
 use Rattle.settings.specs.declared.Settings.{Settings}
 use Rattle.stack.specs.Counts.{chains}
 use Rattle.stack.specs.Recency.{Place, lookup, counts_pins}
-use Rattle.stack.specs.Stack.{Answer, hit, entered, replaced, purged, absent, flushed, answering, answer_word, miss_refused, pinned, purge_refused, is_refused}
+use Rattle.stack.specs.Stack.{Answer, answering, answer_word, is_refused}
+use Rattle.stack.specs.Stack.{hit, entered, replaced, purged, absent, flushed, miss_refused, pinned, purge_refused}
 use Rattle.stack.proofs.BufferLaws.{length_block_at, length_put_block, put_same}
 use Rattle.stack.proofs.ReportLaws.{demanded_few}
 use Rattle.stack.proofs.PlaceLaws.{Placed, hits, enters, replaces, refusing, all_found}
@@ -28,9 +30,9 @@ use Rattle.cache_steps.specs.Places.{placed_in, store_room}
 use Rattle.cache_steps.specs.AccessSteps.{access_least, access_entry, access_carried, victim_below, victim_block}
 use Rattle.cache_steps.specs.PurgeStep.{purge_carried, absent_carried, refused_carried}
 use Rattle.cache_steps.specs.PinStep.{pin_carried, pin_absent}
-use Rattle.promises.specs.DirectoryReady.{HitReady, MissReady, EnterReady, ResidentReady}
+use Rattle.promises.specs.DirectoryReady.{HitReady, MissReady, EnterReady, ReplaceReady}
 use Rattle.accesses.specs.declared.Asked.{Asked}
-use Rattle.accesses.specs.Done.{Clean, AskReady, AccessReady, MissesReady, ReplacesReady}
+use Rattle.accesses.specs.Done.{Clean, AskReady, AccessReady}
 use Rattle.accesses.specs.Done.{is_hit, ReadDone, WriteDone, PurgeDone, PinDone, AskedDone, PinnedDone}
 
 -- ---- answers of a read or a write
@@ -89,11 +91,6 @@ module _ (d : List ℕ) (ok : T (sound d)) (b : ℕ) where
 
 -- ---- the victim written out
 
--- what is asked where the victim is written out
-pub where_out : {X : Type 0} (out : Bool) → out ≡ true → (T out → X) → X
-where_out true e asks = asks tt
-where_out false e asks = asks (subst T (sym e) tt)
-
 -- among residents of which none is modified no victim is
 victim_clean : (d : List ℕ) → T (sound d) → (b : ℕ) → Clean (residents_in d) → {k e v n : ℕ} {written out : Bool} {after : List ℕ}
     → Accessed k d b written e (replaced v n out) after → T (not out)
@@ -108,23 +105,22 @@ victim_clean d ok b clean {v = v} {n = n} {out = out} accessed = go (place_of d 
         subst (λ t. T (not t)) same (all_found (λ y. T (not y.marks.modified)) (residents_in d) w x clean e)
     go q (refusing full all) looked h is = let z : ◌≡◌ {A = ℕ} 0 1 = cc in absurd (omega arith)
 
-module _ (m : Memory) (s : Settings) (block : ℕ) (ready : ReplacesReady m s block) (written : Bool) {k e v n : ℕ} {out : Bool} {d : List ℕ}
+module _ (m : Memory) (s : Settings) (block : ℕ) (ready : AskReady m s block) (written : Bool) {k e v n : ℕ} {out : Bool} {d : List ℕ}
     (accessed : Accessed k m.directory block written e (replaced v n out) d) where
   size_read : s.b ≡ (settings_of m).b
   size_read = ap (λ (t : Settings). t.b) ready.settings_are
 
-  lent_room : Ready m → (s.b ≤ 4096) × (1 ≤ e) × ((e - 1) * s.b + s.b ≤ length m.bytes) × (v * s.b + s.b ≤ length m.store)
+  lent_room : Ready m → (1 ≤ e) × ((e - 1) * s.b + s.b ≤ length m.bytes) × (v * s.b + s.b ≤ length m.store)
   lent_room lent =
       rw size_read (
-        (sound_legal m.directory ready.is_sound).few_bytes,
         access_least m lent block written accessed tt,
         access_entry m lent block written accessed tt,
         victim_block m lent block written accessed,
       )
 
-  pub write_out_room : T out → (s.b ≤ 4096) × (1 ≤ e) × ((e - 1) * s.b + s.b ≤ length m.bytes) × (v * s.b + s.b ≤ length m.store)
+  pub write_out_room : out ≡ true → (1 ≤ e) × ((e - 1) * s.b + s.b ≤ length m.bytes) × (v * s.b + s.b ≤ length m.store)
   write_out_room t =
-      ⊎_elim lent_room (λ clean. absurd (T_not out t (victim_clean m.directory ready.is_sound block clean accessed))) ready.lent
+      ⊎_elim lent_room (λ clean. absurd (T_not out (rw t tt) (victim_clean m.directory ready.is_sound block clean accessed))) ready.lent
 
   pub replaced_small : (v < 2 ^ 18) × (n ≤ 64)
   replaced_small =
@@ -148,26 +144,34 @@ module _ (m : Memory) (s : Settings) (block : ℕ) (ready : ReplacesReady m s bl
 
 -- ---- a miss
 
-pub miss_ready : (m : Memory) (s : Settings) (block : ℕ) → MissesReady m s block → MissReady m.directory block
-miss_ready m s block h =
-    record { is_sound = h.access.is_sound; inside = h.access.inside; absent = h.absent; countable = h.access.countable }
+module _ (m : Memory) (s : Settings) (block : ℕ) (h : AskReady m s block) (absent : lookup block (residents_in m.directory) ≡ none) where
+  miss_ready : MissReady m.directory block
+  miss_ready = record { is_sound = h.is_sound; inside = h.inside; absent = absent; countable = h.countable }
 
-pub enter_ready : (m : Memory) (s : Settings) (block n : ℕ) → MissesReady m s block → n ≡ length (residents_in m.directory) → n < s.n
-    → EnterReady m.directory block × (s ≡ settings_of m)
-enter_ready m s block n h is below =
-    let e = ap (λ (t : Settings). t.n) h.access.settings_are in
-    (record { miss = miss_ready m s block h; unused = omega arith }, h.access.settings_are)
+  pub enter_ready : (n : ℕ) → n ≡ length (residents_in m.directory) → n < s.n → EnterReady m.directory block × (s ≡ settings_of m)
+  enter_ready n is below =
+      let e = ap (λ (t : Settings). t.n) h.settings_are in
+      (record { miss = miss_ready; unused = omega arith }, h.settings_are)
 
-pub replace_ready : (m : Memory) (s : Settings) (block n : ℕ) → MissesReady m s block → n ≡ length (residents_in m.directory) → s.n ≤ n
-    → ReplacesReady m s block
-replace_ready m s block n h is full =
-    let e = ap (λ (t : Settings). t.n) h.access.settings_are in
-    let few = (sound_residents m.directory h.access.is_sound).few in
+  pub replace_ready : (n : ℕ) → n ≡ length (residents_in m.directory) → s.n ≤ n → ReplaceReady m.directory block × (s ≡ settings_of m)
+  replace_ready n is full =
+      let e = ap (λ (t : Settings). t.n) h.settings_are in
+      let few = (sound_residents m.directory h.is_sound).few in
+      (record { miss = miss_ready; full = omega arith }, h.settings_are)
+
+pub entered_done : (m : Memory) (block : ℕ) (written : Bool) {e : ℕ} {halved : Bool} {d : List ℕ}
+    → Accessed 15 m.directory block written e (entered halved) d
+    → (word : ℕ) → word ≡ answer_word (entered halved) → AskedDone m block written (record { entry = e; answer = word; resident = false }) d m.store
+entered_done m block written {halved = halved} accessed word word_is =
     record {
-      is_sound = h.access.is_sound;
-      settings_are = h.access.settings_are;
-      lent = h.access.lent;
-      replace = record { miss = miss_ready m s block h; full = omega arith };
+      answer = entered halved;
+      links = 15;
+      few = omega arith;
+      accessed = accessed;
+      taken = tt;
+      word_is = word_is;
+      resident_is = refl;
+      store_is = refl;
     }
 
 -- ---- a hit
@@ -182,10 +186,24 @@ pub hit_done : (m : Memory) (block : ℕ) (written : Bool) {e n : ℕ} {halved :
     → Accessed 16 m.directory block written e (hit n halved) d
     → (word : ℕ) → word ≡ answer_word (hit n halved) → AskedDone m block written (record { entry = e; answer = word; resident = true }) d m.store
 hit_done m block written {n = n} {halved = halved} accessed word word_is =
-    record
-    { answer = hit n halved; links = 16; few = omega arith; accessed = accessed; taken = tt; word_is = word_is; resident_is = refl; store_is = refl }
+    record {
+      answer = hit n halved;
+      links = 16;
+      few = omega arith;
+      accessed = accessed;
+      taken = tt;
+      word_is = word_is;
+      resident_is = refl;
+      store_is = refl;
+    }
 
 -- ---- bytes of the word
+
+pub where_in : (r : Bool) (x : List ℕ) {y bytes : List ℕ} → not r ≡ true → bytes ≡ y → bytes ≡ pick r x y
+where_in r x out is = rw (not-true r out) is
+
+pub where_there : (r : Bool) {x : List ℕ} (y : List ℕ) {bytes : List ℕ} → not r ≡ false → bytes ≡ x → bytes ≡ pick r x y
+where_there r y there is = rw (not-false r there) is
 
 -- with data and store lent
 pub ask_ready : (m : Memory) (s : Settings) (block : ℕ) → AccessReady m s block → AskReady m s block
@@ -197,9 +215,6 @@ ask_ready m s block h =
       countable = h.countable;
       lent = inl h.ready;
     }
-
-pub size_few : (m : Memory) (s : Settings) (block : ℕ) → AccessReady m s block → s.b ≤ 4096
-size_few m s block ready = rw ready.settings_are (sound_legal m.directory ready.ready.is_sound).few_bytes
 
 module _ (m : Memory) (s : Settings) (block : ℕ) (ready : AccessReady m s block) (written : Bool) (a : Asked) (d store : List ℕ)
     (done : AskedDone m block written a d store) where
@@ -240,9 +255,6 @@ module _ (m : Memory) (s : Settings) (block : ℕ) (ready : AccessReady m s bloc
 
   pub block_room : block * s.b + s.b ≤ length store
   block_room = rw (size_is, store_same) (store_room m ready.ready block ready.inside)
-
-  pub bring_in_room : (s.b ≤ 4096) × (1 ≤ a.entry) × ((a.entry - 1) * s.b + s.b ≤ length m.bytes) × (block * s.b + s.b ≤ length store)
-  bring_in_room = (size_few m s block ready, entry_least, entry_room, block_room)
 
   -- whether the block comes in is whether it wasn't resident: its entry then holds the bytes that the answer tells
   abbrev brought : List ℕ
@@ -372,54 +384,49 @@ write_refused m s block ready d store done j incoming room word word_is =
 
 -- ---- purge and pin
 
-pub purge_ready : (d : List ℕ) (block e : ℕ) → T (sound d) → lookup block (residents_in d) ≡ some (resident_at d e) → ResidentReady d e
-purge_ready d block e ok here = record { is_sound = ok; resident = record { block = block; here = here } }
+module _ (d : List ℕ) (block word : ℕ) where
+  pub absent_done : lookup block (residents_in d) ≡ none → word ≡ answer_word absent → PurgeDone d block d word
+  absent_done here word_is =
+      record {
+        answer = absent;
+        carried = λ bytes store incoming ready. absent_carried (memory d bytes store) ready block incoming here;
+        word_is = word_is;
+      }
 
-pub purge_done : (d : List ℕ) (block e : ℕ) (r : Bool) (after : List ℕ) → lookup block (residents_in d) ≡ some (resident_at d e)
-    → (resident_at d e).marks.pinned ≡ false
-    → ((b : ℕ) → lookup b (residents_in d) ≡ some (resident_at d e) → ((resident_at d e).marks.modified ≡ r) × Purged 15 d b after)
-    → (word : ℕ) → word ≡ answer_word (purged r) → PurgeDone d block after word
-purge_done d block e r after here free gone word word_is =
-    record {
-      answer = purged r;
-      carried =
-          λ bytes store incoming ready. purge_carried (memory d bytes store) ready block incoming (gone block here).1 here (gone block here).0 free
-          (omega arith);
-      word_is = word_is;
-    }
+  pub pin_absent_done : (on : Bool) → lookup block (residents_in d) ≡ none → word ≡ answer_word absent → PinDone on d block d word
+  pin_absent_done on here word_is =
+      record {
+        answer = absent;
+        carried = λ bytes store incoming ready. pin_absent (memory d bytes store) ready block on incoming here;
+        word_is = word_is;
+      }
 
-pub refused_done : (d : List ℕ) (block e : ℕ) → lookup block (residents_in d) ≡ some (resident_at d e) → (resident_at d e).marks.pinned ≡ true
-    → (word : ℕ) → word ≡ answer_word purge_refused → PurgeDone d block d word
-refused_done d block e here mark word word_is =
-    record {
-      answer = purge_refused;
-      carried = λ bytes store incoming ready. refused_carried (memory d bytes store) ready block incoming here mark;
-      word_is = word_is;
-    }
+  module _ (e : ℕ) (here : lookup block (residents_in d) ≡ some (resident_at d e)) where
+    pub purge_done : (r : Bool) (after : List ℕ) → (resident_at d e).marks.pinned ≡ false
+        → ((b : ℕ) → lookup b (residents_in d) ≡ some (resident_at d e) → ((resident_at d e).marks.modified ≡ r) × Purged 15 d b after)
+        → word ≡ answer_word (purged r) → PurgeDone d block after word
+    purge_done r after free gone word_is =
+        record {
+          answer = purged r;
+          carried =
+              λ bytes store incoming ready. purge_carried (memory d bytes store) ready block incoming (gone block here).1 here
+              (gone block here).0 free (omega arith);
+          word_is = word_is;
+        }
 
-pub absent_done : (d : List ℕ) (block : ℕ) → lookup block (residents_in d) ≡ none → (word : ℕ) → word ≡ answer_word absent → PurgeDone d block d word
-absent_done d block here word word_is =
-    record {
-      answer = absent;
-      carried = λ bytes store incoming ready. absent_carried (memory d bytes store) ready block incoming here;
-      word_is = word_is;
-    }
+    pub refused_done : (resident_at d e).marks.pinned ≡ true → word ≡ answer_word purge_refused → PurgeDone d block d word
+    refused_done mark word_is =
+        record {
+          answer = purge_refused;
+          carried = λ bytes store incoming ready. refused_carried (memory d bytes store) ready block incoming here mark;
+          word_is = word_is;
+        }
 
-pub pin_done : (d : List ℕ) (block e : ℕ) (on : Bool) (after : List ℕ) → lookup block (residents_in d) ≡ some (resident_at d e) → Pinned on d e after
-    → (word : ℕ) → word ≡ answer_word (pinned on) → PinDone on d block after word
-unfolding resident_at
-pin_done d block e on after here mark word word_is =
-    record {
-      answer = pinned on;
-      carried = λ bytes store incoming ready. pin_carried (memory d bytes store) ready block on incoming mark here;
-      word_is = word_is;
-    }
-
-pub pin_absent_done : (d : List ℕ) (block : ℕ) (on : Bool) → lookup block (residents_in d) ≡ none → (word : ℕ) → word ≡ answer_word absent
-    → PinDone on d block d word
-pin_absent_done d block on here word word_is =
-    record {
-      answer = absent;
-      carried = λ bytes store incoming ready. pin_absent (memory d bytes store) ready block on incoming here;
-      word_is = word_is;
-    }
+    pub pin_done : (on : Bool) (after : List ℕ) → Pinned on d e after → word ≡ answer_word (pinned on) → PinDone on d block after word
+    unfolding resident_at
+    pin_done on after mark word_is =
+        record {
+          answer = pinned on;
+          carried = λ bytes store incoming ready. pin_carried (memory d bytes store) ready block on incoming mark here;
+          word_is = word_is;
+        }

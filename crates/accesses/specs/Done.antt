@@ -1,21 +1,19 @@
 -- What one read, write, purge or pin starts from, and what it comes to: the word is carried out, and its answer word is that of the answer.
 -- Statements only.
-use Rattle.std.specs.Prelude.{ℕ, ◌<◌, ◌≤◌, ◌≡◌, ◌⊎◌, Bool, true, false, not, List, [], T}
-use Rattle.std.proofs.Math.Option.{none}
+use Rattle.std.specs.Prelude.{ℕ, ◌<◌, ◌≤◌, ◌≡◌, ◌⊎◌, Bool, true, false, not, List, [], T, Option, Some, None}
 use Rattle.basics.specs.Basics.{All, put_block}
 use Rattle.settings.specs.declared.Settings.{Settings}
-use Rattle.stack.specs.Recency.{Resident, lookup}
-use Rattle.stack.specs.Stack.{Work, read, write, purge, Answer, hit, entered, replaced, purged, absent, flushed, miss_refused, pinned, purge_refused, answer_word, is_refused}
+use Rattle.stack.specs.Recency.{Resident}
+use Rattle.stack.specs.Stack.{Work, read, write, purge, Answer, answer_word, is_refused}
+use Rattle.stack.specs.Stack.{hit, entered, replaced, purged, absent, flushed, miss_refused, pinned, purge_refused}
 use Rattle.layout.specs.Sound.{sound, residents_in}
 use Rattle.promises.specs.DirectoryPromises.{Accessed}
 use Rattle.promises.specs.Demand3.{Memory}
 use Rattle.cache_steps.specs.Carried.{settings_of, memory, Ready, Carried}
 use Rattle.cache_steps.specs.PinStep.{pin_work}
 use Rattle.cache_steps.specs.Told.{store_after}
-use Rattle.promises.specs.DirectoryReady.{Countable, ReplaceReady}
+use Rattle.promises.specs.DirectoryReady.{Countable}
 use Rattle.accesses.specs.declared.Asked.{Asked}
-use Rattle.accesses.specs.declared.Place.{Place}
-use Rattle.accesses.specs.declared.Place.TheVariants.{At, AllPinned}
 
 -- ---- before
 
@@ -30,18 +28,6 @@ pub record AskReady (m : Memory) (s : Settings) (block : ℕ) : Type 0 where
   pub inside : block < (settings_of m).m
   pub countable : Countable m.directory
   pub lent : Ready m ⊎ Clean (residents_in m.directory)
-
--- and no resident has it
-pub record MissesReady (m : Memory) (s : Settings) (block : ℕ) : Type 0 where
-  pub access : AskReady m s block
-  pub absent : lookup block (residents_in m.directory) ≡ none
-
--- and no entry is unused
-pub record ReplacesReady (m : Memory) (s : Settings) (block : ℕ) : Type 0 where
-  pub is_sound : T (sound m.directory)
-  pub settings_are : s ≡ settings_of m
-  pub lent : Ready m ⊎ Clean (residents_in m.directory)
-  pub replace : ReplaceReady m.directory block
 
 -- a block of the store may be read or written
 pub record AccessReady (m : Memory) (s : Settings) (block : ℕ) : Type 0 where
@@ -79,9 +65,9 @@ pub record PinnedDone (m : Memory) (block : ℕ) (written : Bool) (directory sto
   pub accessed : Accessed 0 m.directory block written 0 miss_refused directory
   pub store_is : store ≡ m.store
 
-abbrev pub AccessDone : Memory → ℕ → Bool → List ℕ → List ℕ → Place → Type 0
-AccessDone m block written directory store (At r) = AskedDone m block written r directory store
-AccessDone m block written directory store AllPinned = PinnedDone m block written directory store
+abbrev pub AccessDone : Memory → ℕ → Bool → List ℕ → List ℕ → Option Asked → Type 0
+AccessDone m block written directory store (Some r) = AskedDone m block written r directory store
+AccessDone m block written directory store None = PinnedDone m block written directory store
 
 -- A read was carried out: what it gives is block j of the outgoing bytes.
 pub record ReadDone (m : Memory) (block : ℕ) (after : Memory) (r B j : ℕ) (before outgoing : List ℕ) : Type 0 where

@@ -1,84 +1,28 @@
 // One read, write, purge or pin: the directory first, then the bytes. Only the directory's contracts are relied on.
+// Directory, data and store are lent apart and not as one struct: a purge and a pin have the directory alone, and a comparison lends no data.
 #![tactic(auto)]
 
-ghost use Rattle.std.specs.Prelude.{◌≡◌, ℕ, ◌+◌, ◌-◌, ◌*◌, ◌≤◌, List, T, length};
-ghost use Rattle.basics.specs.Basics.{pick, block_at, put_block};
-ghost use Rattle.layout.specs.Sound.{settings_in, sound};
+ghost use Rattle.std.specs.Prelude.{◌≡◌, ◌+◌, ◌*◌, ◌≤◌, T, length};
+ghost use Rattle.basics.specs.Basics.{block_at};
+ghost use Rattle.std.proofs.Math.Option.{none};
+ghost use Rattle.stack.specs.Recency.{lookup};
+ghost use Rattle.layout.specs.Sound.{settings_in, sound, residents_in};
 ghost use Rattle.cache_steps.specs.Carried.{memory};
-ghost use Rattle.promises.specs.DirectoryReady.{EnterReady};
-ghost use Rattle.accesses.specs.Done.{AskReady, AccessReady, ReplacesReady, MissesReady};
-ghost use Rattle.accesses.specs.Done.{AskedDone, AccessDone, ReadDone, WriteDone, PurgeDone, PinDone};
+ghost use Rattle.accesses.specs.Done.{AskReady, AccessReady, AccessDone, ReadDone, WriteDone, PurgeDone, PinDone};
 
-use layout::Found;
-use promises::Replacement;
+use answers::Answer;
 use settings::Settings;
 
 // Where the block is after a read or a write, its answer word, and whether it was resident before.
 #[derive(Clone, Copy)]
 pub struct Asked {
     pub entry: u32,
+    // the answer word: made where the answer is known, which is faster than handing the answer on
     pub answer: u32,
     pub resident: bool,
 }
 
-// What asking for a block comes to.
-#[derive(Clone, Copy)]
-pub enum Place {
-    At(Asked),
-    AllPinned,
-}
-
-// ---- the directory, and the victim's bytes
-
-// The block enters an unused entry.
-fn enter(dir: &mut [u32], block: u32, written: bool, s: Settings) -> Asked
-    requires { EnterReady dir.old block × (s ≡ settings_in dir.old) }
-    ensures { (bytes store : List ℕ) → AskedDone (memory dir.old bytes store) block written result dir.new store }
-{
-    let r = directory::enter(dir, block, written, s);
-    Asked {
-        entry: r.entry,
-        answer: answers::entered_word(r.halved),
-        resident: false,
-    }
-}
-
-// A modified victim's bytes go to the store.
-fn write_out(bytes: &[u8], entry: u32, store: &mut [u8], victim: u32, out: bool, size: u32)
-    requires { T out → (size ≤ 4096) × (1 ≤ entry) × ((entry - 1) * size + size ≤ length bytes.now)
-        × (victim * size + size ≤ length store.old) }
-    ensures { store.new ≡ pick out (put_block size victim (block_at size (entry - 1) bytes.now) store.old) store.old }
-{
-    if out {
-        blocks::move_block(bytes, entry - 1, store, victim, size);
-    }
-}
-
-// The block takes over the victim's entry, unless all are pinned.
-fn replace(
-    dir: &mut [u32],
-    bytes: &[u8],
-    store: &mut [u8],
-    block: u32,
-    written: bool,
-    s: Settings,
-) -> Place
-    requires { ReplacesReady (memory dir.old bytes.now store.old) s block }
-    ensures { AccessDone (memory dir.old bytes.now store.old)
-        block written dir.new store.new result }
-{
-    let Replacement::By(r) = directory::replace(dir, block, written, s) else {
-        return Place::AllPinned;
-    };
-    write_out(bytes, r.entry, store, r.victim, r.out, s.b);
-    Place::At(Asked {
-        entry: r.entry,
-        answer: answers::replaced_word(r.victim, r.chains, r.out),
-        resident: false,
-    })
-}
-
-// A block that no resident has.
+// A block that no resident has enters an unused entry, or takes over the victim's, whose bytes go to the store if modified.
 fn miss(
     dir: &mut [u32],
     bytes: &[u8],
@@ -86,18 +30,40 @@ fn miss(
     block: u32,
     written: bool,
     s: Settings,
-) -> Place
-    requires { MissesReady (memory dir.old bytes.now store.old) s block }
+) -> Option<Asked>
+    requires { AskReady (memory dir.old bytes.now store.old) s block × (lookup block (residents_in dir.old) ≡ none) }
     ensures { AccessDone (memory dir.old bytes.now store.old)
         block written dir.new store.new result }
 {
     if directory::residents(dir) < s.n {
-        return Place::At(enter(dir, block, written, s));
+        let r = directory::enter(dir, block, written, s);
+        return Some(Asked {
+            entry: r.entry,
+            answer: Answer::Entered { halved: r.halved }.word(),
+            resident: false,
+        });
     }
-    replace(dir, bytes, store, block, written, s)
+    // Not by `?`: the scope names `let .. else`, all pinned first.
+    let Some(r) = directory::replace(dir, block, written, s) else {
+        return None;
+    };
+    if r.out {
+        blocks::move_block(bytes, r.entry - 1, store, r.victim, s.b);
+    }
+    Some(Asked {
+        entry: r.entry,
+        answer: Answer::Replaced {
+            victim: r.victim,
+            chains: r.chains,
+            out: r.out,
+        }
+        .word(),
+        resident: false,
+    })
 }
 
-// The block is asked for; a modified victim is written out. Where none is modified, data and store are not looked at and may be empty.
+// The block is asked for, and a modified victim is written out; none where all are pinned. Where no resident is modified, data and store
+// are not looked at and may be empty.
 pub fn access(
     dir: &mut [u32],
     bytes: &[u8],
@@ -105,33 +71,24 @@ pub fn access(
     block: u32,
     written: bool,
     s: Settings,
-) -> Place
+) -> Option<Asked>
     requires { AskReady (memory dir.old bytes.now store.old) s block }
     ensures { AccessDone (memory dir.old bytes.now store.old)
         block written dir.new store.new result }
 {
-    let Found::At(e) = directory::lookup(dir, block, s) else {
+    let Some(e) = directory::lookup(dir, block, s) else {
         return miss(dir, bytes, store, block, written, s);
     };
     let r = directory::hit(dir, e, written, s);
-    Place::At(Asked {
+    Some(Asked {
         entry: e,
-        answer: answers::hit_word(r.count, r.halved),
+        answer: Answer::Hit {
+            count: r.count,
+            halved: r.halved,
+        }
+        .word(),
         resident: true,
     })
-}
-
-// ---- the words
-
-// A block that was not resident comes in: the store's bytes go to its entry.
-fn bring_in(bytes: &mut [u8], entry: u32, store: &[u8], block: u32, resident: bool, size: u32)
-    requires { (size ≤ 4096) × (1 ≤ entry) × ((entry - 1) * size + size ≤ length bytes.old) × (block * size + size ≤ length store.now) }
-    ensures { bytes.new ≡ pick resident bytes.old (put_block size (entry - 1) (block_at size block store.now) bytes.old) }
-{
-    if resident {
-        return;
-    }
-    blocks::move_block(store, block, bytes, entry - 1, size);
 }
 
 // A read: the block's bytes become block j of the outgoing ones; zeros where all are pinned.
@@ -147,11 +104,13 @@ pub fn read(
     requires { AccessReady (memory dir.old bytes.old store.old) s block × (j * s.b + s.b ≤ length outgoing.old) }
     ensures { ReadDone (memory dir.old bytes.old store.old) block (memory dir.new bytes.new store.new) result s.b j outgoing.old outgoing.new }
 {
-    let Place::At(a) = access(dir, bytes, store, block, false, s) else {
+    let Some(a) = access(dir, bytes, store, block, false, s) else {
         blocks::clear_block(outgoing, j, s.b);
-        return answers::all_pinned_word();
+        return Answer::AllPinned.word();
     };
-    bring_in(bytes, a.entry, store, block, a.resident, s.b);
+    if !a.resident {
+        blocks::move_block(store, block, bytes, a.entry - 1, s.b);
+    }
     blocks::move_block(bytes, a.entry - 1, outgoing, j, s.b);
     a.answer
 }
@@ -169,8 +128,8 @@ pub fn write(
     requires { AccessReady (memory dir.old bytes.old store.old) s block × (j * s.b + s.b ≤ length incoming.now) }
     ensures { WriteDone (memory dir.old bytes.old store.old) block (block_at s.b j incoming.now) (memory dir.new bytes.new store.new) result }
 {
-    let Place::At(a) = access(dir, bytes, store, block, true, s) else {
-        return answers::all_pinned_word();
+    let Some(a) = access(dir, bytes, store, block, true, s) else {
+        return Answer::AllPinned.word();
     };
     blocks::move_block(incoming, j, bytes, a.entry - 1, s.b);
     a.answer
@@ -181,14 +140,16 @@ pub fn purge(dir: &mut [u32], block: u32, s: Settings) -> u32
     requires { T (sound dir.old) × (s ≡ settings_in dir.old) }
     ensures { PurgeDone dir.old block dir.new result }
 {
-    let Found::At(e) = directory::lookup(dir, block, s) else {
-        return answers::absent_word();
+    let Some(e) = directory::lookup(dir, block, s) else {
+        return Answer::Absent.word();
     };
-    let marks = directory::marks_of(dir, e);
-    if marks.pinned {
-        return answers::purge_refused_word();
+    if directory::marks_of(dir, e).pinned {
+        return Answer::PurgeRefused.word();
     }
-    answers::purged_word(directory::purge(dir, e, s))
+    Answer::Purged {
+        discarded: directory::purge(dir, e, s),
+    }
+    .word()
 }
 
 // A pin, or an unpin: of the resident, if there is one.
@@ -196,9 +157,9 @@ pub fn pin(dir: &mut [u32], block: u32, on: bool, s: Settings) -> u32
     requires { T (sound dir.old) × (s ≡ settings_in dir.old) }
     ensures { PinDone on dir.old block dir.new result }
 {
-    let Found::At(e) = directory::lookup(dir, block, s) else {
-        return answers::absent_word();
+    let Some(e) = directory::lookup(dir, block, s) else {
+        return Answer::Absent.word();
     };
     directory::pin(dir, e, on);
-    answers::pinned_word(on)
+    Answer::Pinned(on).word()
 }

@@ -1,111 +1,70 @@
-// Answer words: the kind in the top 4 bits, the value in the low 28.
+// Answers, and their words: the kind in the top 4 bits, the value in the low 28.
 #![tactic(auto)]
 
-ghost use Rattle.std.specs.Prelude.{◌≡◌, ◌^◌, ◌≤◌, ◌<◌};
-ghost use Rattle.stack.specs.Stack.{hit, entered, replaced, purged, absent, flushed, miss_refused, pinned, purge_refused, answer_word};
+ghost use Rattle.std.specs.Prelude.{◌≡◌};
+ghost use Rattle.stack.specs.Stack.{answer_word};
+ghost use Rattle.answers.specs.Meant.{meant, Fits};
 
-const HIT: u32 = 268435456;
+// The kinds, as the numbers by which C takes a word apart.
+const HIT: u32 = 1 << 28;
 
-const ENTERED: u32 = 536870912;
+const ENTERED: u32 = 2 << 28;
 
-const REPLACED: u32 = 805306368;
+const REPLACED: u32 = 3 << 28;
 
-const PURGED: u32 = 1073741824;
+const PURGED: u32 = 4 << 28;
 
-const ABSENT: u32 = 1342177280;
+const ABSENT: u32 = 5 << 28;
 
-const FLUSHED: u32 = 1610612736;
+const FLUSHED: u32 = 6 << 28;
 
-const ALL_PINNED: u32 = 1879048192;
+const ALL_PINNED: u32 = 7 << 28;
 
-const PINNED: u32 = 2147483648;
+const PINNED: u32 = 8 << 28;
 
-const PURGE_REFUSED: u32 = 2415919104;
+const PURGE_REFUSED: u32 = 9 << 28;
 
-// What is added where counts were halved, for each chain looked at, and where the victim was written out.
-const HALVED: u32 = 67108864;
+// What is added for each chain looked at, where the victim was written out, and where counts were halved.
+const CHAIN: u32 = 1 << 18;
 
-const CHAIN: u32 = 262144;
+const OUT: u32 = 1 << 25;
 
-const OUT: u32 = 33554432;
+const HALVED: u32 = 1 << 26;
 
-// A hit: the count after any rise and before halving.
-pub fn hit_word(count: u32, halved: bool) -> u32
-    requires { count ≤ 65535 }
-    ensures { result ≡ answer_word (hit count halved) }
-{
-    if halved {
-        return HIT + count + HALVED;
+// What a work word came to.
+#[derive(Clone, Copy, Debug, PartialEq, Eq)]
+pub enum Answer {
+    Hit { count: u32, halved: bool }, // the count after any rise and before halving
+    Entered { halved: bool }, // an unused entry
+    Replaced { victim: u32, chains: u32, out: bool },
+    Purged { discarded: bool }, // whether modified bytes were
+    Absent,
+    Flushed(u32), // so many were written out
+    AllPinned, // a miss, while all residents are pinned
+    Pinned(bool), // whether the resident is pinned afterwards
+    PurgeRefused, // of a pinned resident, which stays
+}
+
+impl Answer {
+    #[tactic(auto, unfolding(stack::specs::Stack::answer_word))]
+    pub fn word(self) -> u32
+        requires { Fits self }
+        ensures { result ≡ answer_word (meant self) }
+    {
+        match self {
+            Answer::Hit { count, halved } => HIT + count + HALVED * u32::from(halved),
+            Answer::Entered { halved } => ENTERED + HALVED * u32::from(halved),
+            Answer::Replaced {
+                victim,
+                chains,
+                out,
+            } => REPLACED + victim + CHAIN * chains + OUT * u32::from(out),
+            Answer::Purged { discarded } => PURGED + u32::from(discarded),
+            Answer::Absent => ABSENT,
+            Answer::Flushed(n) => FLUSHED + n,
+            Answer::AllPinned => ALL_PINNED,
+            Answer::Pinned(on) => PINNED + u32::from(on),
+            Answer::PurgeRefused => PURGE_REFUSED,
+        }
     }
-    HIT + count
-}
-
-// An unused entry was entered.
-pub fn entered_word(halved: bool) -> u32
-    ensures { result ≡ answer_word (entered halved) }
-{
-    if halved {
-        return ENTERED + HALVED;
-    }
-    ENTERED
-}
-
-// The victim was replaced.
-pub fn replaced_word(victim: u32, chains: u32, out: bool) -> u32
-    requires { (victim < 2 ^ 18) × (chains ≤ 64) }
-    ensures { result ≡ answer_word (replaced victim chains out) }
-{
-    if out {
-        return REPLACED + victim + CHAIN * chains + OUT;
-    }
-    REPLACED + victim + CHAIN * chains
-}
-
-// A resident was purged: 1 if modified bytes were discarded.
-pub fn purged_word(discarded: bool) -> u32
-    ensures { result ≡ answer_word (purged discarded) }
-{
-    if discarded {
-        return PURGED + 1;
-    }
-    PURGED
-}
-
-// The block is absent.
-pub fn absent_word() -> u32
-    ensures { result ≡ answer_word absent }
-{
-    ABSENT
-}
-
-// So many were written out.
-pub fn flushed_word(n: u32) -> u32
-    requires { n ≤ 4096 }
-    ensures { result ≡ answer_word (flushed n) }
-{
-    FLUSHED + n
-}
-
-// A miss, while all residents are pinned.
-pub fn all_pinned_word() -> u32
-    ensures { result ≡ answer_word miss_refused }
-{
-    ALL_PINNED
-}
-
-// A resident was pinned or unpinned: 1 if it is pinned afterwards.
-pub fn pinned_word(on: bool) -> u32
-    ensures { result ≡ answer_word (pinned on) }
-{
-    if on {
-        return PINNED + 1;
-    }
-    PINNED
-}
-
-// A purge of a pinned resident, which stays.
-pub fn purge_refused_word() -> u32
-    ensures { result ≡ answer_word purge_refused }
-{
-    PURGE_REFUSED
 }

@@ -18,6 +18,9 @@ use Rattle.layout.specs.Sound.{view, totals_in}
 use Rattle.promises.specs.Promises.{over, Fresh, Slices, Batch}
 use Rattle.promises.specs.Demand3.{Memory, Lending, lends, leaves, as_call, starts, Alike, Follows, end, call}
 use Rattle.promises.proofs.Demand3Laws.{demand3}
+use Rattle.std.specs.Prelude.{Result as Returned}
+use Rattle.refusals.specs.declared.Refusal.{Refusal}
+use Rattle.refusals.specs.Refusals.{outcome}
 use Rattle.belt.specs.Belt.{incoming_bytes}
 use Rattle.belt.specs.declared.Outcome.{Outcome}
 use Rattle.belt.specs.Cycles.{belt_start, belt_call, belt_result, Left, ReadOff, Cycled}
@@ -99,18 +102,18 @@ pub record Lent (before incoming bytes store outgoing : List ℕ) : Type 0 where
   pub store_zero : store ≡ replicate 512 0
   pub outgoing_long : length outgoing ≡ 8192
 
-module _ (work answers before d incoming bytes store outgoing : List ℕ) (after : Slices) (f n : ℕ) (c : Outcome) where
+module _ (work answers before d incoming bytes store outgoing : List ℕ) (after : Slices) (f : ℕ) (returned : Returned (Unit {0}) Refusal) (c : Outcome) where
   abbrev left : Left
   left = record { answers = after.answers; store = after.store; outgoing = after.outgoing }
 
-  from_one : ReadOff work after.directory n c → One answers outgoing [] belt_start (belt_call work (length answers)) n after
+  from_one : ReadOff work after.directory returned c → One answers outgoing [] belt_start (belt_call work (length answers)) (outcome returned) after
       → Cycled work answers outgoing c left
   unfolding belt_result
   from_one r o =
       record {
-        number = r.number ∙ o.number;
+        number = ap outcome r.returned ∙ o.number;
         words = r.words;
-        answered = λ z. r.words ∙ sym (batch_answers belt_start (belt_call work (length answers)) (sym (r.number ∙ o.number) ∙ z));
+        answered = λ z. r.words ∙ sym (batch_answers belt_start (belt_call work (length answers)) (sym (ap outcome r.returned ∙ o.number) ∙ z));
         answers = o.answered;
         outgoing = o.given;
         store = o.stored ∙ append-nil _;
@@ -119,13 +122,13 @@ module _ (work answers before d incoming bytes store outgoing : List ℕ) (after
       }
 
   pub belt_cycled : Fresh belt before f d
-      → Batch work incoming (record { directory = d; bytes = bytes; store = store; answers = answers; outgoing = outgoing }) n after
-      → ReadOff work after.directory n c
+      → Batch work incoming (record { directory = d; bytes = bytes; store = store; answers = answers; outgoing = outgoing }) (outcome returned) after
+      → ReadOff work after.directory returned c
       → Lent before incoming bytes store outgoing
       → Cycled work answers outgoing c left
   belt_cycled p b r l =
       let fresh = accepted_fresh before d f l.directory_long p in
-      let one = one_batch belt before d work incoming bytes store answers outgoing n after fresh b in
+      let one = one_batch belt before d work incoming bytes store answers outgoing (outcome returned) after fresh b in
       from_one r (rw (calls, starts_zero store l.store_zero, none_past) at one)
     where
       calls : as_call (record {

@@ -6,6 +6,9 @@ use Rattle.stack.specs.Examples.{belt}
 use Rattle.layout.specs.Sound.{totals_in}
 use Rattle.promises.specs.Promises.{over}
 use Rattle.belt.specs.Belt.{incoming_bytes}
+use Rattle.std.specs.Prelude.{Result as Returned}
+use Rattle.refusals.specs.declared.Refusal.{Refusal}
+use Rattle.refusals.specs.Refusals.{outcome}
 use Rattle.belt.specs.declared.Outcome.{Outcome}
 
 -- the plain stack at the start
@@ -35,18 +38,18 @@ module _ (work lentAnswers lentOutgoing : List ℕ) where
   o = belt_result work (length lentAnswers)
 
   pub record Cycled (c : Outcome) (after : Left) : Type 0 where
-    pub number : c.number ≡ o.number
+    pub number : outcome c.batch ≡ o.number
     pub words : c.words ≡ length work
-    pub answered : c.number ≡ 0 → c.words ≡ length o.ran.answers
+    pub answered : outcome c.batch ≡ 0 → c.words ≡ length o.ran.answers
     pub answers : after.answers ≡ over (map answer_word o.ran.answers) lentAnswers
     pub outgoing : after.outgoing ≡ over o.ran.outgoing lentOutgoing
     pub store : after.store ≡ o.ran.after.store
     pub moves : c.moves ≡ o.ran.after.totals.ins + o.ran.after.totals.outs
     pub references : c.references ≡ o.ran.after.totals.reads + o.ran.after.totals.writes
 
--- What is read off the words d of the directory that a batch of number n left.
-pub record ReadOff (work d : List ℕ) (n : ℕ) (c : Outcome) : Type 0 where
-  pub number : c.number ≡ n
+-- What is read off the words d of the directory that a batch left, which returned r.
+pub record ReadOff (work d : List ℕ) (r : Returned (Unit {0}) Refusal) (c : Outcome) : Type 0 where
+  pub returned : c.batch ≡ r
   pub words : c.words ≡ length work
   pub moves : c.moves ≡ (totals_in d).ins + (totals_in d).outs
   pub references : c.references ≡ (totals_in d).reads + (totals_in d).writes

@@ -6,6 +6,7 @@ ghost use Rattle.promises.specs.Promises.{over};
 ghost use Rattle.belt.specs.Belt.{word_of, words_of, input_words, incoming_bytes};
 ghost use Rattle.belt.specs.Cycles.{ReadOff, Cycled};
 
+use refusals::Refusal;
 use settings::Settings;
 
 const BELT: Settings = Settings {
@@ -24,24 +25,10 @@ const MOST_BYTES: usize = 4100;
 // What the belt's batch gives beside its answers.
 #[derive(Clone, Copy)]
 pub struct Outcome {
-    pub number: u32, // 0 where the batch is accepted
+    pub batch: Result<(), Refusal>,
     pub words: usize, // work words; an accepted batch has as many answers
     pub moves: u64, // block ins and block outs
     pub references: u64, // reads and writes
-}
-
-// A byte as a word.
-fn wide(x: u8) -> u32
-    ensures { result ≡ x }
-{
-    x as u32
-}
-
-// The word of four bytes, low byte first.
-fn join(a: u8, b: u8, c: u8, d: u8) -> u32
-    ensures { result ≡ word_of a b c d }
-{
-    wide(a) + 256 * wide(b) + 65536 * wide(c) + 16777216 * wide(d)
 }
 
 // Word i of bytes.
@@ -50,18 +37,14 @@ fn word_at(bytes: &[u8], i: usize) -> u32
     ensures { result ≡ get_or (words_of bytes.now) i 0 }
 {
     let at = 4 * i;
-    join(bytes[at], bytes[at + 1], bytes[at + 2], bytes[at + 3])
+    u32::from_le_bytes([bytes[at], bytes[at + 1], bytes[at + 2], bytes[at + 3]])
 }
 
 // How many words an input of so many bytes has.
 fn word_count(bytes: usize) -> usize
     ensures { result ≡ min 4100 bytes / 4 }
 {
-    if bytes < MOST_BYTES {
-        bytes / 4
-    } else {
-        MOST_BYTES / 4
-    }
+    bytes.min(MOST_BYTES) / 4
 }
 
 // The work words of the input, at the front of `work`; how many they are.
@@ -70,10 +53,8 @@ pub fn decode(input: &[u8], work: &mut [u32]) -> usize
     ensures { (work.new ≡ over (input_words input.now) work.old) × (result ≡ length (input_words input.now)) }
 {
     let n = word_count(input.len());
-    let mut i = 0;
-    while i < n {
+    for i in 0..n {
         work[i] = word_at(input, i);
-        i += 1;
     }
     n
 }
@@ -90,14 +71,12 @@ pub fn fill_incoming(incoming: &mut [u8])
     requires { length incoming.old ≡ 8192 }
     ensures { incoming.new ≡ incoming_bytes }
 {
-    let mut i = 0;
-    while i < incoming.len() {
-        incoming[i] = mark(i);
-        i += 1;
+    for (i, byte) in incoming.iter_mut().enumerate() {
+        *byte = mark(i);
     }
 }
 
-// The block ins and block outs carried out.
+// The block ins and block outs carried out. Beside `header::references`: which two totals is all that either says.
 fn moves(dir: &[u32]) -> u64
     ensures { result ≡ (totals_in dir.now).ins + (totals_in dir.now).outs }
 {
@@ -105,11 +84,11 @@ fn moves(dir: &[u32]) -> u64
 }
 
 // The outcome, from the directory that the batch left.
-fn read_off(dir: &[u32], work: &[u32], number: u32) -> Outcome
-    ensures { ReadOff work.now dir.now number result }
+fn read_off(dir: &[u32], work: &[u32], batch: Result<(), Refusal>) -> Outcome
+    ensures { ReadOff work.now dir.now batch result }
 {
     Outcome {
-        number: number,
+        batch,
         words: work.len(),
         moves: moves(dir),
         references: header::references(dir),
@@ -132,11 +111,11 @@ fn run(
     *store = [0u8; 512];
     fill_incoming(&mut incoming);
     // Belt is legal and 70 words are enough: it is accepted.
-    fresh::fresh(BELT, &mut dir);
-    let number = cache::batch(
+    let _ = fresh::fresh(BELT, &mut dir);
+    let batch = cache::batch(
         &mut dir, &mut bytes, store, work, &incoming, answers, outgoing,
     );
-    read_off(&dir, work, number)
+    read_off(&dir, work, batch)
 }
 
 // The whole cycle: the batch that the input asks for. What `store` held before is given up.

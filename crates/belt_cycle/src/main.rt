@@ -3,6 +3,7 @@
 
 ghost use Rattle.std.specs.Prelude.{◌≤◌, length, IfOk};
 
+use refusals::Refusal;
 use std::io;
 use std::io::{ErrorKind, Read};
 
@@ -20,16 +21,15 @@ fn print_answer(rt: &impl Print, word: u32) -> io::Result<()> {
     )
 }
 
-fn print_answers(rt: &impl Print, answers: &[u32; 1025], n: usize) -> io::Result<()>
-    requires { n ≤ 1025 }
-{
-    for i in 0..n {
-        print_answer(rt, answers[i])?;
+fn print_answers(rt: &impl Print, answers: &[u32]) -> io::Result<()> {
+    for answer in answers {
+        print_answer(rt, *answer)?;
     }
     Ok(())
 }
 
-fn print_refusal(rt: &impl Print, number: u32) -> io::Result<()> {
+fn print_refusal(rt: &impl Print, why: Refusal) -> io::Result<()> {
+    let number = u32::from(why);
     println!(rt; "refused {number}")
 }
 
@@ -39,10 +39,10 @@ fn report(rt: &impl Print, input: &[u8]) -> io::Result<()> {
     let mut store = [0u8; 512];
     let mut outgoing = [0u8; 8192];
     let o = belt::cycle(input, &mut answers, &mut store, &mut outgoing);
-    if o.number != 0 {
-        return print_refusal(rt, o.number);
+    if let Err(why) = o.batch {
+        return print_refusal(rt, why);
     }
-    print_answers(rt, &answers, o.words)?;
+    print_answers(rt, &answers[..o.words])?;
     print!(rt; "total ")?;
     print_pair(rt, o.moves, o.references)
 }

@@ -1,20 +1,18 @@
 -- What the functions ask of each other and return, over variables.
-use Prim.Native.Nat.{ℕ, ◌+◌, ◌-◌, ◌*◌, ◌/◌, ◌%◌, ◌^◌, ◌≤◌, ◌<◌}
+use Prim.Native.Nat.{ℕ, ◌+◌, ◌-◌, ◌*◌, ◌^◌, ◌≤◌, ◌<◌}
 use native.Mathlib.Omega.{arith}
 use native.Mathlib.Nat.{one-mul}
-use native.Mathlib.Decide.{dec_le}
 use native.Mathlib.Numerals.{add-one}
-use mathlib.Core.Path.{◌≡◌, refl, sym, ap, subst, ◌∙◌}
-use mathlib.Core.Logic.{◌≢◌}
-use mathlib.Core.Bool.{Bool, true, false, not}
+use mathlib.Core.Path.{◌≡◌, refl, sym, ap, ap₂, subst, ◌∙◌}
 use mathlib.Core.List.{List, [], ◌∷◌, ◌++◌, map, append-nil, map-append}
 use lib.ListN.{length, take, get_or, set, length-map, length-set}
-use lib.Seq.{length-take-le, take_all}
-use lib.Dec.{T, eqb}
-use mir.Facts.{eqb_yes, eqb_no}
+use lib.Seq.{length-take-le}
 use Rattle.basics.specs.Basics.{block_at, put_block, total}
 use Rattle.settings.specs.declared.Settings.{Settings}
 use Rattle.stack.specs.Stack.{Work, read, write, purge, flush, tick, pin, unpin, invalid, Answer, flushed, answer_word}
+use Rattle.batch_number.specs.declared.Work.{Work as Asked}
+use Rattle.batch_number.specs.Tallies.{meant as means}
+use Rattle.std.specs.Prelude.{Some}
 use Rattle.stack.specs.Batch.{work, is_read, is_write, is_invalid, how_many, batch_number}
 use Rattle.stack.proofs.BatchLaws.{allowed, works_inside}
 use Rattle.layout.specs.Sound.{settings_in, totals_in}
@@ -24,57 +22,33 @@ use Rattle.promises.specs.Demand3.{Memory}
 use Rattle.cache_steps.specs.Carried.{settings_of, memory, Ready, Carried}
 use Rattle.cache_steps.specs.Runs.{Chain, end, snoc_word, all_carried, chain_ready, chain_answers}
 use Rattle.cache_steps.specs.BatchFacts.{valid_at, incoming_at, outgoing_at, one_more}
-use Rattle.cache_steps.specs.FlushLists.{sweep}
-use Rattle.cache_steps.specs.PinStep.{pin_work}
-use Rattle.cache_steps.specs.WorkLaws.{work_read, work_write, work_purge, work_pin, work_flush}
 use Rattle.cache_steps.specs.GivenLaws.{carried_gives, chain_gives}
 use Rattle.cache_steps.specs.TotalsLaws.{chain_totals}
 use Rattle.cache_steps.specs.OverLaws.{over_set, over_put}
 use Rattle.cache_steps.specs.Accepts.{memory_in, accepted}
-use Rattle.accesses.specs.Done.{AccessReady, ReadDone, WriteDone, PurgeDone, PinDone}
+use Rattle.accesses.specs.Done.{AccessReady, ReadDone, Rearranged}
 use Rattle.cache.specs.declared.Passed.{Passed}
 use Rattle.cache.specs.Words.{WordReady, WordDone, RunReady, RunDone}
 
--- ---- the words counted
-
-module _ (p : Passed) (s : Settings) (w : ℕ) (valid : is_invalid (work s w) ≡ 0) where
-  abbrev Counted : ℕ → ℕ → Type 0
-  Counted reads writes = (reads ≡ p.reads + is_read (work s w)) × (writes ≡ p.writes + is_write (work s w))
-
-  pub counted_read : w / 2 ^ 28 ≡ 1 → Counted (p.reads + 1) p.writes
-  counted_read kind = rw (work_read s w kind valid).0 (refl, omega arith)
-
-  pub counted_write : w / 2 ^ 28 ≡ 2 → Counted p.reads (p.writes + 1)
-  counted_write kind = rw (work_write s w kind valid).0 (omega arith, refl)
-
-  -- any other
-  pub counted_none : w / 2 ^ 28 ≢ 1 → w / 2 ^ 28 ≢ 2 → Counted p.reads p.writes
-  counted_none read₁ write₁ = go (eqb (w / 2 ^ 28) 3) (eqb_yes {a = w / 2 ^ 28} {b = 3}) (eqb_no {a = w / 2 ^ 28} {b = 3})
-    where
-      go : (x : Bool) → (T x → w / 2 ^ 28 ≡ 3) → (T (not x) → w / 2 ^ 28 ≢ 3) → Counted p.reads p.writes
-      go true is differs = rw (work_purge s w (is tt) valid).0 (omega arith, omega arith)
-      go false is differs = high (dec_le (w / 2 ^ 28) 5)
-        where
-          held : (on : Bool) → (p.reads ≡ p.reads + is_read (pin_work on (w % 2 ^ 28))) × (p.writes ≡ p.writes + is_write (pin_work on (w % 2 ^ 28)))
-          held true = (omega arith, omega arith)
-          held false = (omega arith, omega arith)
-
-          swept : (ticks : Bool) → (p.reads ≡ p.reads + is_read (sweep ticks)) × (p.writes ≡ p.writes + is_write (sweep ticks))
-          swept true = (omega arith, omega arith)
-          swept false = (omega arith, omega arith)
-
-          high : Dec (w / 2 ^ 28 ≤ 5) → Counted p.reads p.writes
-          high (yes l) = rw (work_flush s w read₁ write₁ (differs tt) l valid) (swept (eqb (w / 2 ^ 28) 5))
-          high (no l) = rw (work_pin s w (omega arith) valid).0 (held (eqb (w / 2 ^ 28) 6))
-
 -- ---- one word
 
-module _ (m : Memory) (s : Settings) (w : ℕ) (passed : Passed) (incoming outgoing : List ℕ) (ready : WordReady m s w passed incoming outgoing) where
-  abbrev b : ℕ
-  b = w % 2 ^ 28
+module _ (m : Memory) (s : Settings) (passed : Passed) (incoming outgoing : List ℕ) where
+  abbrev Before : Work → Type 0
+  Before w = WordReady m s w passed incoming outgoing
 
-  access_ready : b < s.m → AccessReady m s b
-  access_ready inside =
+  abbrev After : Work → ℕ → Memory → List ℕ → Type 0
+  After w r after gave = WordDone m s w passed incoming outgoing r after gave
+
+  -- the word is what it was decoded to
+  pub at_work : {x y : Asked} → x ≡ y → Before (means (Some x)) → Before (means (Some y))
+  at_work e ready = subst (λ x. Before (means (Some x))) e ready
+
+  pub work_at : {x y : Asked} {r : ℕ} {after : Memory} {gave : List ℕ} → x ≡ y → After (means (Some y)) r after gave
+      → After (means (Some x)) r after gave
+  work_at {r = r} {after = after} {gave = gave} e done = subst (λ x. After (means (Some x)) r after gave) (sym e) done
+
+  access_ready : (w : Work) (b : ℕ) → Before w → b < s.m → AccessReady m s b
+  access_ready w b ready inside =
       record {
         ready = ready.ready;
         settings_are = ready.settings_are;
@@ -82,93 +56,49 @@ module _ (m : Memory) (s : Settings) (w : ℕ) (passed : Passed) (incoming outgo
         countable = ready.countable;
       }
 
-  size_is : s.b ≡ (settings_of m).b
-  size_is = ap (λ (t : Settings). t.b) ready.settings_are
-
   -- nothing is given
   gave_none : (front buffer : List ℕ) → length front ≡ passed.reads * s.b → outgoing ≡ over front buffer → outgoing ≡ over (front ++ []) buffer
   gave_none front buffer long is = is ∙ ap (λ t. over t buffer) (sym (append-nil front))
 
-  module _ (kind : w / 2 ^ 28 ≡ 1) where
-    as_read : work s w ≡ read b
-    as_read = (work_read s w kind ready.valid).0
+  read_ready : (b : ℕ) → Before (read b) → AccessReady m s b × (passed.reads * s.b + s.b ≤ length outgoing)
+  read_ready b ready =
+      let room = ready.outgoing_room in
+      let one = one-mul s.b in
+      (access_ready (read b) b ready ready.inside, omega arith)
 
-    pub read_ready : AccessReady m s b × (passed.reads * s.b + s.b ≤ length outgoing)
-    read_ready =
-        let room = subst (λ x. passed.reads * s.b + is_read x * s.b ≤ length outgoing) as_read ready.outgoing_room in
-        let one = one-mul s.b in
-        (access_ready (work_read s w kind ready.valid).1, omega arith)
+  pub read_word : (b : ℕ) → Before (read b) → (after : Memory) (r : ℕ) (gave : List ℕ)
+      → ReadDone m b after r s.b passed.reads outgoing gave → After (read b) r after gave
+  read_word b ready after r gave done =
+      let carried = done.carried (block_at s.b passed.writes incoming) in
+      let size_is : s.b ≡ (settings_of m).b = ap (λ (t : Settings). t.b) ready.settings_are in
+      let long : length done.given ≡ s.b = carried_gives ready.ready (read_ready b ready).0.inside carried ∙ one-mul (settings_of m).b
+      ∙ sym size_is in
+      record {
+        answer = done.answer;
+        given = done.given;
+        carried = carried;
+        word_is = done.word_is;
+        gave_is =
+            λ front buffer h is. done.outgoing_is ∙ ap (put_block s.b passed.reads done.given) is
+            ∙ over_put s.b passed.reads front done.given buffer h long;
+      }
 
-    pub read_word : (after : Memory) (r : ℕ) (gave : List ℕ) → ReadDone m b after r s.b passed.reads outgoing gave
-        → WordDone m s w passed incoming outgoing r after gave
-    read_word after r gave done =
-        let carried = done.carried (block_at s.b passed.writes incoming) in
-        let long : length done.given ≡ s.b = carried_gives ready.ready read_ready.0.inside carried ∙ one-mul (settings_of m).b
-        ∙ sym size_is in
-        record {
-          answer = done.answer;
-          given = done.given;
-          carried = rw as_read carried;
-          word_is = done.word_is;
-          gave_is =
-              λ front buffer h is. done.outgoing_is ∙ ap (put_block s.b passed.reads done.given) is
-              ∙ over_put s.b passed.reads front done.given buffer h long;
-        }
-
-  module _ (kind : w / 2 ^ 28 ≡ 2) where
-    as_write : work s w ≡ write b
-    as_write = (work_write s w kind ready.valid).0
-
-    pub write_ready : AccessReady m s b × (passed.writes * s.b + s.b ≤ length incoming)
-    write_ready =
-        let room = subst (λ x. passed.writes * s.b + is_write x * s.b ≤ length incoming) as_write ready.incoming_room in
-        let one = one-mul s.b in
-        (access_ready (work_write s w kind ready.valid).1, omega arith)
-
-    pub write_word : (after : Memory) (r : ℕ) → WriteDone m b (block_at s.b passed.writes incoming) after r
-        → WordDone m s w passed incoming outgoing r after outgoing
-    write_word after r done =
-        record { answer = done.answer; given = []; carried = rw as_write done.carried; word_is = done.word_is; gave_is = gave_none }
-
-  pub purge_word : w / 2 ^ 28 ≡ 3 → (after : List ℕ) (r : ℕ) → PurgeDone m.directory b after r
-      → WordDone m s w passed incoming outgoing r (memory after m.bytes m.store) outgoing
-  purge_word kind after r done =
+  -- a purge or a pin
+  pub still_word : (w : Work) → Ready m → (after : List ℕ) (r : ℕ) → Rearranged w m.directory after r
+      → After w r (memory after m.bytes m.store) outgoing
+  still_word w ready after r done =
       record {
         answer = done.answer;
         given = [];
-        carried =
-            rw (work_purge s w kind ready.valid).0 (done.carried m.bytes m.store (block_at s.b passed.writes incoming)
-            ready.ready);
+        carried = done.carried m.bytes m.store (block_at s.b passed.writes incoming) ready;
         word_is = done.word_is;
         gave_is = gave_none;
       }
 
-  pub pin_word : 5 < w / 2 ^ 28 → (after : List ℕ) (r : ℕ) → PinDone (eqb (w / 2 ^ 28) 6) m.directory b after r
-      → WordDone m s w passed incoming outgoing r (memory after m.bytes m.store) outgoing
-  pin_word kind after r done =
-      record {
-        answer = done.answer;
-        given = [];
-        carried =
-            rw (work_pin s w kind ready.valid).0 (done.carried m.bytes m.store (block_at s.b passed.writes incoming) ready.ready);
-        word_is = done.word_is;
-        gave_is = gave_none;
-      }
-
-  pub flush_ready : Ready m × (s.b ≡ (settings_of m).b)
-  flush_ready = (ready.ready, size_is)
-
-  pub flush_word : w / 2 ^ 28 ≢ 1 → w / 2 ^ 28 ≢ 2 → w / 2 ^ 28 ≢ 3 → w / 2 ^ 28 ≤ 5 → (after : Memory) (n r : ℕ)
-      → ((x : List ℕ) → Carried m (sweep (eqb (w / 2 ^ 28) 5)) x after (flushed n) []) → r ≡ answer_word (flushed n)
-      → WordDone m s w passed incoming outgoing r after outgoing
-  flush_word read₁ write₁ purge₁ low after n r carried word_is =
-      record {
-        answer = flushed n;
-        given = [];
-        carried = rw (work_flush s w read₁ write₁ purge₁ low ready.valid) (carried (block_at s.b passed.writes incoming));
-        word_is = word_is;
-        gave_is = gave_none;
-      }
+  pub flush_word : (w : Work) (after : Memory) (n : ℕ) → ((x : List ℕ) → Carried m w x after (flushed n) [])
+      → (r : ℕ) → r ≡ answer_word (flushed n) → After w r after outgoing
+  flush_word w after n carried r word_is =
+      record { answer = flushed n; given = []; carried = carried (block_at s.b passed.writes incoming); word_is = word_is; gave_is = gave_none }
 
 -- ---- all words
 
@@ -183,9 +113,6 @@ pub record Running (before : Slices) (words incoming : List ℕ) (s : Settings) 
   pub reads_are : passed.reads ≡ how_many is_read (map (work s) (take i words))
   pub writes_are : passed.writes ≡ how_many is_write (map (work s) (take i words))
   pub inside : i ≤ length words
-  pub directory_long : length after.directory ≡ length before.directory
-  pub bytes_long : length after.bytes ≡ length before.bytes
-  pub store_long : length after.store ≡ length before.store
   pub answers_long : length after.answers ≡ length before.answers
   pub outgoing_long : length after.outgoing ≡ length before.outgoing
 
@@ -203,9 +130,6 @@ run_start before words incoming s h =
       reads_are = refl;
       writes_are = refl;
       inside = omega arith;
-      directory_long = refl;
-      bytes_long = refl;
-      store_long = refl;
       answers_long = refl;
       outgoing_long = refl;
     }
@@ -224,11 +148,15 @@ module _ (before : Slices) (words incoming : List ℕ) (s : Settings) (after : S
   number : batch_number s (totals_in before.directory) (call_of words incoming before) ≡ 0
   number = rw same running.start.number
 
-  pub valid_word : is_invalid (work s (get_or words i 0)) ≡ 0
+  valid_word : is_invalid (work s (get_or words i 0)) ≡ 0
   valid_word = valid_at s (totals_in before.directory) (call_of words incoming before) number i h
 
+  -- so it means something
+  pub word_meant : invalid ≡ work s (get_or words i 0) → ⊥
+  word_meant e = let v : 1 ≡ 0 = ap is_invalid e ∙ valid_word in omega (arith, v)
+
   -- counted so far: no more than words
-  pub passed_few : (passed.reads ≤ 1024) × (passed.writes ≤ 1024) × (is_invalid (work s (get_or words i 0)) ≡ 0)
+  pub passed_few : (passed.reads ≤ 1024) × (passed.writes ≤ 1024)
   unfolding total
   passed_few =
       let few = (allowed s (totals_in before.directory) (call_of words incoming before) number).few in
@@ -237,7 +165,7 @@ module _ (before : Slices) (words incoming : List ℕ) (s : Settings) (after : S
       let a = how_many_lem is_read (λ x. one_read x) (take i words) in
       let b = how_many_lem is_write (λ x. one_write x) (take i words) in
       let l = length-take-le i words running.inside in
-      (omega arith, omega arith, valid_word)
+      (omega arith, omega arith)
     where
       one_read : (x : Work) → is_read x ≤ 1
       one_read (read x) = omega arith
@@ -277,17 +205,20 @@ module _ (before : Slices) (words incoming : List ℕ) (s : Settings) (after : S
       let e = length-map (take i words) (work s) in
       omega arith
 
-  pub word_ready : WordReady (memory_in after) s (get_or words i 0) passed incoming after.outgoing
-  word_ready =
+  now_ready : WordReady (memory_in after) s (work s (get_or words i 0)) passed incoming after.outgoing
+  now_ready =
       record {
         ready = at_now;
         settings_are = sym kept;
-        valid = valid_word;
+        inside = (works_inside s (get_or words i 0 ∷ [])).0;
         countable = let t = few_totals in record { reads = omega arith; writes = omega arith };
         incoming_room = rw running.writes_are (incoming_at s (totals_in before.directory) (call_of words incoming before) number i h);
         outgoing_room =
             rw (running.reads_are, running.outgoing_long) (outgoing_at s (totals_in before.directory) (call_of words incoming before) number i h);
       }
+
+  pub word_ready : (x : Work) → x ≡ work s (get_or words i 0) → WordReady (memory_in after) s x passed incoming after.outgoing
+  word_ready x is = rw is now_ready
 
   -- the answer goes to its place
   pub answer_place : i < length after.answers
@@ -295,12 +226,16 @@ module _ (before : Slices) (words incoming : List ℕ) (s : Settings) (after : S
       let room = (allowed s (totals_in before.directory) (call_of words incoming before) number).answers in let e =
       running.answers_long in omega arith
 
-  module _ (d bytes store gave : List ℕ) (r : ℕ) (more : Passed)
-      (done : WordDone (memory_in after) s (get_or words i 0) passed incoming after.outgoing r (memory d bytes store) gave)
-      (counted : (more.reads ≡ passed.reads + is_read (work s (get_or words i 0)))
-      × (more.writes ≡ passed.writes + is_write (work s (get_or words i 0))))
-      (d-long : length d ≡ length after.directory) (b-long : length bytes ≡ length after.bytes) (s-long : length store ≡ length after.store)
+  module _ (x : Work) (x_is : x ≡ work s (get_or words i 0)) (d bytes store gave : List ℕ) (r : ℕ) (more : Passed)
+      (x_done : WordDone (memory_in after) s x passed incoming after.outgoing r (memory d bytes store) gave)
+      (x_counted : (more.reads ≡ passed.reads + is_read x) × (more.writes ≡ passed.writes + is_write x))
       (g-long : length gave ≡ length after.outgoing) where
+    done : WordDone (memory_in after) s (work s (get_or words i 0)) passed incoming after.outgoing r (memory d bytes store) gave
+    done = rw x_is at x_done
+
+    counted : (more.reads ≡ passed.reads + is_read (work s (get_or words i 0))) × (more.writes ≡ passed.writes + is_write (work s (get_or words i 0)))
+    counted = rw x_is at x_counted
+
     answered_long : length (map answer_word running.answered) ≡ i
     answered_long =
         length-map running.answered answer_word ∙ chain_answers running.chain ∙ length-map (take i words) (work s)
@@ -311,10 +246,9 @@ module _ (before : Slices) (words incoming : List ℕ) (s : Settings) (after : S
         let place = answer_place in
         let long = running.answers_long in
         let l = answered_long in
-        ap (λ t. set t i r) running.answers_are
-        ∙ ap (λ n. set (over (map answer_word running.answered) before.answers) n r) (sym answered_long)
-        ∙ over_set (map answer_word running.answered) before.answers r (omega arith)
-        ∙ ap (λ x. over (map answer_word running.answered ++ (x ∷ [])) before.answers) done.word_is
+        ap₂ (λ t x. set t i x) running.answers_are done.word_is
+        ∙ ap (λ n. set (over (map answer_word running.answered) before.answers) n (answer_word done.answer)) (sym answered_long)
+        ∙ over_set (map answer_word running.answered) before.answers (answer_word done.answer) (omega arith)
         ∙ ap (λ t. over t before.answers) (sym (map-append answer_word running.answered (done.answer ∷ [])))
 
     given_long : length running.given ≡ passed.reads * s.b
@@ -343,34 +277,13 @@ module _ (before : Slices) (words incoming : List ℕ) (s : Settings) (after : S
           reads_are = counted.0 ∙ ap (λ n. n + is_read (work s w)) running.reads_are ∙ sym (rw (add-one i) (one_more s is_read words i h));
           writes_are = counted.1 ∙ ap (λ n. n + is_write (work s w)) running.writes_are ∙ sym (rw (add-one i) (one_more s is_write words i h));
           inside = omega arith;
-          directory_long = d-long ∙ running.directory_long;
-          bytes_long = b-long ∙ running.bytes_long;
-          store_long = s-long ∙ running.store_long;
           answers_long = length-set after.answers i r ∙ running.answers_long;
           outgoing_long = g-long ∙ running.outgoing_long;
         }
 
-pub run_end : (before : Slices) (words incoming : List ℕ) (s : Settings) (after : Slices) (passed : Passed) (i : ℕ)
-    → Running before words incoming s after passed i → length words ≤ i
-    → RunDone before words incoming s after
-run_end before words incoming s after passed i running left =
-    let whole : take i words ≡ words = take_all i words left in
-    record {
-      answered = running.answered;
-      given = running.given;
-      chain =
-          subst (λ t. Chain s.b (memory_in before) (map (work s) t) incoming (memory_in after) running.answered running.given) whole
-          running.chain;
-      answers_are = running.answers_are;
-      outgoing_is = running.outgoing_is;
-    }
-
 -- ---- a batch
 
 module _ (words incoming : List ℕ) (before : Slices) (n : ℕ) (is : n ≡ number_of words incoming before) where
-  pub declined_batch : n ≢ 0 → Batch words incoming before n before
-  declined_batch refused = record { returned = is; accepted = λ e. absurd (refused e); declined = λ e. refl }
-
   pub run_ready : n ≡ 0 → (s : Settings) → s ≡ settings_in before.directory → RunReady before words incoming s
   run_ready zero s same =
       let (ok, number) = number_zero words incoming before (sym is ∙ zero) in

@@ -2,8 +2,9 @@
 use Rattle.std.specs.Prelude.{ℕ, ◌+◌, ◌*◌, ◌≤◌, ◌≡◌, List, ◌++◌, map, length}
 use Rattle.basics.specs.Basics.{block_at}
 use Rattle.settings.specs.declared.Settings.{Settings}
-use Rattle.stack.specs.Stack.{Answer, answer_word}
-use Rattle.stack.specs.Batch.{work, is_read, is_write, is_invalid, batch_number}
+use Rattle.stack.specs.Stack.{Work, Answer, answer_word}
+use Rattle.stack.proofs.ForgetLaws.{InStore}
+use Rattle.stack.specs.Batch.{work, is_read, is_write, batch_number}
 use Rattle.layout.specs.Sound.{totals_in}
 use Rattle.promises.specs.Promises.{over, Slices, call_of}
 use Rattle.promises.specs.Demand3.{Memory}
@@ -13,23 +14,28 @@ use Rattle.cache_steps.specs.Accepts.{memory_in}
 use Rattle.promises.specs.DirectoryReady.{Countable}
 use Rattle.cache.specs.declared.Passed.{Passed}
 
+-- what a batch is lent and may write
+abbrev pub slices : (directory bytes store answers outgoing : List ℕ) → Slices
+slices directory bytes store answers outgoing =
+    record { directory = directory; bytes = bytes; store = store; answers = answers; outgoing = outgoing }
+
 -- ---- one word
 
--- a valid word, with room for what it takes and gives
-pub record WordReady (m : Memory) (s : Settings) (word : ℕ) (passed : Passed) (incoming outgoing : List ℕ) : Type 0 where
+-- a word of a block of the store, with room for what it takes and gives
+pub record WordReady (m : Memory) (s : Settings) (w : Work) (passed : Passed) (incoming outgoing : List ℕ) : Type 0 where
   pub ready : Ready m
   pub settings_are : s ≡ settings_of m
-  pub valid : is_invalid (work s word) ≡ 0
+  pub inside : InStore s.m w
   pub countable : Countable m.directory
-  pub incoming_room : passed.writes * s.b + is_write (work s word) * s.b ≤ length incoming
-  pub outgoing_room : passed.reads * s.b + is_read (work s word) * s.b ≤ length outgoing
+  pub incoming_room : passed.writes * s.b + is_write w * s.b ≤ length incoming
+  pub outgoing_room : passed.reads * s.b + is_read w * s.b ≤ length outgoing
 
 -- It was carried out with the next block of incoming; what it gives follows what was given.
-pub record WordDone (m : Memory) (s : Settings) (word : ℕ) (passed : Passed) (incoming outgoing : List ℕ) (r : ℕ) (after : Memory)
+pub record WordDone (m : Memory) (s : Settings) (w : Work) (passed : Passed) (incoming outgoing : List ℕ) (r : ℕ) (after : Memory)
     (gave : List ℕ) : Type 0 where
   pub answer : Answer
   pub given : List ℕ
-  pub carried : Carried m (work s word) (block_at s.b passed.writes incoming) after answer given
+  pub carried : Carried m w (block_at s.b passed.writes incoming) after answer given
   pub word_is : r ≡ answer_word answer
   pub gave_is : (front buffer : List ℕ) → length front ≡ passed.reads * s.b → outgoing ≡ over front buffer → gave ≡ over (front ++ given) buffer
 

@@ -1,37 +1,63 @@
 #![tactic(auto)]
 
-ghost use Rattle.std.specs.Prelude.{◌≡◌, ◌+◌, ◌-◌, ◌*◌, ◌≤◌, ◌<◌, length};
+ghost use Rattle.std.specs.Prelude.{◌≡◌, ◌+◌, ◌-◌, ◌*◌, ◌<◌, length, MatchOption};
 ghost use Rattle.layout.specs.Addresses.{COUNT};
 ghost use Rattle.check_model.specs.Masks.{Masks};
 ghost use Rattle.check_model.specs.Tests.{Lent, Tested, buckets_from, chain_test, cursor, end_test, ends_ok, entry_word, first_of, head_of, last_at, left_after, list_test, no_second, noted, tail_of};
 
+use settings::Legal;
+
+// Counts that have a chain under some settings, and 0.
+pub const COUNTS: usize = 65;
+
+// The words of chain 0, if there were one.
+const HEAD: usize = check_stack::HEADER - 2;
+
+const TAIL: usize = HEAD + 1;
+
+// Where the buckets' links begin, and how many there are: a power of two, so that a mask of a hash gives its bucket.
+#[derive(Clone, Copy)]
+pub struct Buckets {
+    pub start: u32,
+    pub many: u32,
+
+    ghost some: { 0 < many },
+    ghost mask: { Masks (many - 1) many },
+}
+
+// The entries that a chain's head and tail link to: a function each, as they have a definition each.
+#[tactic(auto, unfolding(check_model::specs::Tests::head_of))]
 fn head_of(d: &[u32], i: u32) -> u32
     ensures { result ≡ head_of d.now i }
 {
-    words::get(d, 22 + 2 * (i as usize))
+    words::get(d, HEAD + 2 * (i as usize))
 }
 
+#[tactic(auto, unfolding(check_model::specs::Tests::tail_of))]
 fn tail_of(d: &[u32], i: u32) -> u32
     ensures { result ≡ tail_of d.now i }
 {
-    words::get(d, 23 + 2 * (i as usize))
+    words::get(d, TAIL + 2 * (i as usize))
 }
 
 // The entry that chain c names behind before.
+#[tactic(auto, unfolding(check_model::specs::Tests::cursor, check_model::specs::Tests::entry_word))]
 fn cursor_of(d: &[u32], entries: &[u32], before: u32, c: u32) -> u32
     ensures { result ≡ cursor (entry_word entries.now) (head_of d.now) before c }
 {
     if before == 0 {
-        return head_of(d, c);
+        head_of(d, c)
+    } else {
+        words::get(
+            entries,
+            check_stack::ENTRY * (before as usize) + layout::CHAIN_TO_TAIL as usize,
+        )
     }
-    words::get(
-        entries,
-        9 * (before as usize) + layout::CHAIN_TO_TAIL as usize,
-    )
 }
 
 // The last entry seen of a count.
-fn last_of(last: &[u32; 65], c: u32) -> u32
+#[tactic(auto, unfolding(check_model::specs::Tests::last_at))]
+fn last_of(last: &[u32; COUNTS], c: u32) -> u32
     requires { c < 65 }
     ensures { result ≡ last_at last.now c }
 {
@@ -39,54 +65,46 @@ fn last_of(last: &[u32; 65], c: u32) -> u32
 }
 
 // Entry e stands behind the last one of its count, or in no chain.
-pub fn chain_test(d: &[u32], entries: &[u32], cmax: u32, e: u32, last: &[u32; 65]) -> bool
-    requires { (cmax ≤ 64) × (9 * e + 8 < length entries.now) }
-    ensures { result ≡ chain_test (entry_word entries.now) (head_of d.now) cmax e
+#[tactic(auto, using(settings::specs::NumbersLaws::legal_settings), unfolding(check_model::specs::Tests::chain_test))]
+pub fn chain_test(d: &[u32], entries: &[u32], legal: Legal, e: u32, last: &[u32; COUNTS]) -> bool
+    requires { 9 * e + 8 < length entries.now }
+    ensures { result ≡ chain_test (entry_word entries.now) (head_of d.now) legal.of.cmax e
         (last_at last.now (entry_word entries.now COUNT e)) }
 {
     let count = check_stack::field(entries, layout::COUNT, e);
-    if count > cmax {
-        if check_stack::field(entries, layout::CHAIN_TO_HEAD, e) == 0 {
-            return check_stack::field(entries, layout::CHAIN_TO_TAIL, e) == 0;
-        }
-        return false;
+    let ahead = check_stack::field(entries, layout::CHAIN_TO_HEAD, e);
+    if count > legal.of.cmax {
+        return ahead == 0 && check_stack::field(entries, layout::CHAIN_TO_TAIL, e) == 0;
     }
     let before = last_of(last, count);
-    if check_stack::field(entries, layout::CHAIN_TO_HEAD, e) == before {
-        return cursor_of(d, entries, before, count) == e;
-    }
-    false
+    ahead == before && cursor_of(d, entries, before, count) == e
 }
 
+#[tactic(auto, unfolding(check_model::specs::Tests::end_test))]
 fn end_test(d: &[u32], entries: &[u32], i: u32, before: u32) -> bool
     ensures { result ≡ end_test (entry_word entries.now) (head_of d.now) (tail_of d.now) i before }
 {
-    if tail_of(d, i) == before {
-        return cursor_of(d, entries, before, i) == 0;
-    }
-    false
+    tail_of(d, i) == before && cursor_of(d, entries, before, i) == 0
 }
 
 // Entry e is the last one seen of count c.
-pub fn note(last: &mut [u32; 65], c: u32, e: u32)
+#[tactic(auto, unfolding(check_model::specs::Tests::noted))]
+pub fn note(last: &mut [u32; COUNTS], c: u32, e: u32)
     ensures { last.new ≡ noted last.old c e }
 {
-    if c < 65 {
+    if c < COUNTS as u32 {
         last[c as usize] = e;
     }
 }
 
 // The chains end where the last entries of their counts are.
-pub fn ends_ok(d: &[u32], entries: &[u32], cmax: u32, last: &[u32; 65]) -> bool
-    requires { cmax ≤ 64 }
-    ensures { result ≡ ends_ok (entry_word entries.now) (head_of d.now) (tail_of d.now) cmax last.now }
+pub fn ends_ok(d: &[u32], entries: &[u32], legal: Legal, last: &[u32; COUNTS]) -> bool
+    ensures { result ≡ ends_ok (entry_word entries.now) (head_of d.now) (tail_of d.now) legal.of.cmax last.now }
 {
-    let mut i = 0;
-    while i < cmax {
+    for i in 0..legal.of.cmax {
         if !end_test(d, entries, i + 1, last_of(last, i + 1)) {
             return false;
         }
-        i += 1;
     }
     true
 }
@@ -95,96 +113,85 @@ pub fn ends_ok(d: &[u32], entries: &[u32], cmax: u32, last: &[u32; 65]) -> bool
 fn no_second_resident(
     d: &[u32],
     entries: &[u32],
-    start: u32,
+    buckets: Buckets,
     bucket: u32,
     block: u32,
     ahead: u32,
 ) -> bool
-    requires { Lent entries.now ahead (first_of d.now start bucket) }
-    ensures { result ≡ no_second (entry_word entries.now) block ahead (first_of d.now start bucket) }
+    requires { Lent entries.now ahead (first_of d.now buckets.start bucket) }
+    ensures { result ≡ no_second (entry_word entries.now) block ahead (first_of d.now buckets.start bucket) }
 {
     // so that a list's first resident costs no look at the bucket again
     if ahead == 0 {
         return true;
     }
-    let mut e = words::get(d, start as usize + bucket as usize);
-    let mut more = ahead;
-    while more > 0 {
+    let mut e = words::get(d, buckets.start as usize + bucket as usize);
+    for _ in 0..ahead {
         if check_stack::field(entries, layout::BLOCK, e) == block {
             return false;
         }
         e = check_stack::field(entries, layout::NEXT_SYNONYM, e);
-        more -= 1;
     }
     true
 }
 
 // Entry e, listed in bucket b behind `ahead` others, is in the bucket of its block, and none of them has that block.
+#[tactic(auto, using(crate::proofs::Laws::own_is, check_model::specs::LoopLaws::tested_lent), unfolding(check_model::specs::Tests::list_test))]
 fn list_test(
     d: &[u32],
     entries: &[u32],
-    start: u32,
     n: u32,
-    nb: u32,
+    buckets: Buckets,
     b: u32,
     ahead: u32,
     e: u32,
 ) -> bool
-    requires { (9 * n + 8 < length entries.now) × (0 < nb) × Masks (nb - 1) nb
-        × Tested (entry_word entries.now) (first_of d.now start) n nb b ahead }
-    ensures { result ≡ list_test (entry_word entries.now) (first_of d.now start) n nb b ahead e }
+    requires { (9 * n + 8 < length entries.now)
+        × Tested (entry_word entries.now) (first_of d.now buckets.start) n buckets.many b ahead }
+    ensures { result ≡ list_test (entry_word entries.now) (first_of d.now buckets.start) n buckets.many b ahead e }
 {
-    if e > n {
-        return false;
-    }
-    if check_stack::field(entries, layout::COUNT, e) == 0 {
+    if e > n || check_stack::field(entries, layout::COUNT, e) == 0 {
         return false;
     }
     let block = check_stack::field(entries, layout::BLOCK, e);
-    let own = fnv::hash(block) & (nb - 1);
+    let own = fnv::hash(block) & (buckets.many - 1);
     if own != b {
         return false;
     }
-    no_second_resident(d, entries, start, own, block, ahead)
+    no_second_resident(d, entries, buckets, own, block, ahead)
 }
 
-// What is left of the budget after bucket b, and 1; 0 where its list is wrong.
-fn bucket(d: &[u32], entries: &[u32], start: u32, n: u32, nb: u32, b: u32, budget: u32) -> u32
-    requires { (9 * n + 8 < length entries.now) × (0 < nb) × Masks (nb - 1) nb × (budget < 4294967295) }
-    ensures { result ≡ left_after (entry_word entries.now) (first_of d.now start) n nb b budget }
+// What is left of the budget after bucket b; none where its list is wrong. A link of 0 ends the list.
+fn bucket(d: &[u32], entries: &[u32], n: u32, buckets: Buckets, b: u32, budget: u32) -> Option<u32>
+    requires { 9 * n + 8 < length entries.now }
+    ensures { MatchOption result
+        (left_after (entry_word entries.now) (first_of d.now buckets.start) n buckets.many b budget ≡ 0)
+        (λ left. left_after (entry_word entries.now) (first_of d.now buckets.start) n buckets.many b budget ≡ left + 1) }
 {
-    let mut e = words::get(d, start as usize + b as usize);
-    let mut left = budget;
-    while left > 0 {
+    let mut e = words::get(d, buckets.start as usize + b as usize);
+    for ahead in 0..budget {
         if e == 0 {
-            return left + 1;
+            return Some(budget - ahead);
         }
-        if !list_test(d, entries, start, n, nb, b, budget - left, e) {
-            return 0;
+        if !list_test(d, entries, n, buckets, b, ahead, e) {
+            return None;
         }
         e = check_stack::field(entries, layout::NEXT_SYNONYM, e);
-        left -= 1;
     }
-    if e == 0 {
-        return 1;
-    }
-    0
+    if e == 0 { Some(0) } else { None }
 }
 
 // The buckets list count entries in all, each in its own.
-pub fn buckets_ok(d: &[u32], entries: &[u32], start: u32, n: u32, nb: u32, count: u32) -> bool
-    requires { (9 * n + 8 < length entries.now) × (0 < nb) × Masks (nb - 1) nb × (count < 4294967295) }
-    ensures { result ≡ buckets_from (entry_word entries.now) (first_of d.now start) n nb nb 0 count }
+pub fn buckets_ok(d: &[u32], entries: &[u32], n: u32, buckets: Buckets, count: u32) -> bool
+    requires { 9 * n + 8 < length entries.now }
+    ensures { result ≡ buckets_from (entry_word entries.now) (first_of d.now buckets.start) n buckets.many buckets.many 0 count }
 {
-    let mut b = 0;
     let mut left = count;
-    while b < nb {
-        let k = bucket(d, entries, start, n, nb, b, left);
-        if k == 0 {
+    for b in 0..buckets.many {
+        let Some(rest) = bucket(d, entries, n, buckets, b, left) else {
             return false;
-        }
-        left = k - 1;
-        b += 1;
+        };
+        left = rest;
     }
     left == 0
 }

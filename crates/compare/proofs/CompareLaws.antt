@@ -18,8 +18,7 @@ use Rattle.opt.specs.Ins.{block_of, trace_of, most_reads, ins_of, lru}
 use Rattle.opt.proofs.RemoveLaws.{either, same, apart, above}
 use Rattle.opt.proofs.InsLaws.{any_store, ins_few}
 use Rattle.opt.proofs.StackSchemeLaws.{opt_at_most}
-use Rattle.compare.specs.declared.Compared.{Compared}
-use Rattle.compare.specs.Compare.{is_trace_read, is_no_trace, compare_number, figures, declined, compared, Small}
+use Rattle.compare.specs.Compare.{Compared, is_trace_read, is_no_trace, compare_number, figures, declined, compared, Small}
 use Rattle.compare.specs.Compare.{InsOfWords, NoFewerThanOpt, NoneGiven, Given}
 use Rattle.compare.specs.Reading.{Trace}
 

@@ -21,8 +21,8 @@ use Rattle.promises.specs.DirectoryPromises.{place_of, asked_of, halves_of, Acce
 use Rattle.cache_steps.specs.Carried.{memory}
 use Rattle.cache_steps.specs.Places.{placed_in}
 use Rattle.accesses.specs.Done.{Clean, AskReady, AccessDone}
-use Rattle.accesses.specs.declared.Place.{Place}
-use Rattle.accesses.specs.declared.Place.TheVariants.{At, AllPinned}
+use Rattle.std.proofs.Common.{Option, Some, None}
+use Rattle.accesses.specs.declared.Asked.{Asked}
 use Rattle.opt.proofs.MarkLaws.{NotModified, unmodified_again, read_marked, settled_marked}
 use Rattle.opt.specs.Ins.{block_of, trace_of, ins_of}
 use Rattle.opt.proofs.InsLaws.{bare_entering, bare_read, ins_from_lem, ins_few, trace_step, trace_end}
@@ -62,10 +62,10 @@ module _ (d : List ℕ) (s : Settings) (block : ℕ) (h : ReadReady d s block) w
       }
 
   -- at an entry, or refused, all being pinned
-  pub read_done : (bytes store after store' : List ℕ) (r : Place) → AccessDone (memory d bytes store) block false after store' r
+  pub read_done : (bytes store after store' : List ℕ) (r : Option Asked) → AccessDone (memory d bytes store) block false after store' r
       → ReadDone d s block after
-  read_done bytes store after store' (At a) done = accessed_done done.accessed
-  read_done bytes store after store' AllPinned done = accessed_done done.accessed
+  read_done bytes store after store' (Some a) done = accessed_done done.accessed
+  read_done bytes store after store' None done = accessed_done done.accessed
 
 -- ---- a trace
 

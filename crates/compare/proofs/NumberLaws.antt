@@ -17,30 +17,45 @@ use Rattle.basics.specs.Basics.{when◌then◌else◌}
 use Rattle.basics.specs.Lists.{all}
 use Rattle.settings.specs.declared.Settings.{Settings}
 use Rattle.settings.specs.Numbers.{settings_number}
-use Rattle.settings.specs.NumbersLaws.{legal_settings, number_zero}
-use Rattle.stack.specs.Stack.{Work, read, write, purge, flush, tick, pin, unpin, invalid}
+use Rattle.settings.specs.NumbersLaws.{legal_settings}
+use Rattle.std.proofs.Common.{Some, None}
+use Rattle.refusals.specs.declared.Refusal.{Refusal}
+use Rattle.refusals.specs.Refusals.{number}
+use Rattle.refusals.proofs.Laws.{number_some}
+use Rattle.stack.specs.Stack.{Work}
 use Rattle.stack.specs.Batch.{work, is_read}
-use Rattle.batch_number.specs.Tallies.{kind_of}
+use Rattle.batch_number.specs.declared.Work.{Work as Asked}
+use Rattle.batch_number.specs.declared.Work.TheVariants.{Read, Write, Purge, Flush, Tick, Pin, Unpin}
+use Rattle.batch_number.specs.Tallies.{meant}
 use Rattle.opt.specs.Opt.{opt_ins}
 use Rattle.opt.specs.Ins.{trace_of, most_reads, ins_of, lru}
-use Rattle.opt.proofs.LruLaws.{lru_legal}
 use Rattle.opt_ins.specs.Awaited.{TraceReady}
-use Rattle.compare.specs.declared.Compared.{Compared}
-use Rattle.compare.specs.Compare.{is_trace_read, is_no_trace, compare_number, figures, declined, compared}
+use Rattle.compare.specs.Compare.{Compared, is_trace_read, is_no_trace, compare_number, figures, declined, compared}
 use Rattle.compare.specs.Reading.{Trace}
 use Rattle.compare.proofs.CompareLaws.{Accepted, accepted, in_order, minus_small}
 
--- ---- the loop over the words
+-- ---- one word
 
-kind_read : (x : Work) → eqb (kind_of x) 1 ≡ eqb (is_read x) 1
-kind_read (read b) = refl
-kind_read (write b) = refl
-kind_read (purge b) = refl
-kind_read flush = refl
-kind_read tick = refl
-kind_read (pin b) = refl
-kind_read (unpin b) = refl
-kind_read invalid = refl
+module _ (s : Settings) (w : ℕ) where
+  pub is_read_word : (b : ℕ) → meant (Some (Read b)) ≡ work s w → true ≡ is_trace_read s w
+  unfolding work
+  is_read_word b e = ap (λ (k : Work). eqb (is_read k) 1) e
+
+  pub no_work : meant None ≡ work s w → false ≡ is_trace_read s w
+  unfolding work
+  no_work e = ap (λ (k : Work). eqb (is_read k) 1) e
+
+  pub other_work : (x : Asked) → meant (Some x) ≡ work s w → ((b : ℕ) → x ≡ Read b → ⊥) → false ≡ is_trace_read s w
+  unfolding work
+  other_work (Read b) e n = absurd (n b refl)
+  other_work (Write b) e n = ap (λ (k : Work). eqb (is_read k) 1) e
+  other_work (Purge b) e n = ap (λ (k : Work). eqb (is_read k) 1) e
+  other_work Flush e n = ap (λ (k : Work). eqb (is_read k) 1) e
+  other_work Tick e n = ap (λ (k : Work). eqb (is_read k) 1) e
+  other_work (Pin b) e n = ap (λ (k : Work). eqb (is_read k) 1) e
+  other_work (Unpin b) e n = ap (λ (k : Work). eqb (is_read k) 1) e
+
+-- ---- the loop over the words
 
 all_step : (f : ℕ → Bool) (words : List ℕ) (i : ℕ) → i < length words → all f (drop i words) ≡ (f (get_or words i 0) && all f (drop (i + 1) words))
 unfolding all
@@ -52,20 +67,15 @@ pub record Passing (s : Settings) (trace : List ℕ) (i : ℕ) : Type 0 where
   pub within : i ≤ length trace
   pub all_left : all (is_trace_read s) trace ≡ all (is_trace_read s) (drop i trace)
 
-module _ (s : Settings) (trace : List ℕ) (i : ℕ) (p : Passing s trace i) (h : i < length trace) (k : ℕ)
-    (is : k ≡ kind_of (work s (get_or trace i 0))) where
-  here : is_trace_read s (get_or trace i 0) ≡ eqb k 1
-  unfolding work
-  here = sym (kind_read (work s (get_or trace i 0))) ∙ ap (λ n. eqb n 1) (sym is)
+module _ (s : Settings) (trace : List ℕ) (i : ℕ) (p : Passing s trace i) (h : i < length trace) where
+  left : (b : Bool) → b ≡ is_trace_read s (get_or trace i 0) → all (is_trace_read s) trace ≡ (b && all (is_trace_read s) (drop (i + 1) trace))
+  left b e = p.all_left ∙ all_step (is_trace_read s) trace i h ∙ ap (λ (b : Bool). b && all (is_trace_read s) (drop (i + 1) trace)) (sym e)
 
-  left : (b : Bool) → eqb k 1 ≡ b → all (is_trace_read s) trace ≡ (b && all (is_trace_read s) (drop (i + 1) trace))
-  left b e = p.all_left ∙ all_step (is_trace_read s) trace i h ∙ ap (λ (b : Bool). b && all (is_trace_read s) (drop (i + 1) trace)) (here ∙ e)
+  pub passing_stops : false ≡ is_trace_read s (get_or trace i 0) → false ≡ all (is_trace_read s) trace
+  passing_stops e = sym (left false e)
 
-  pub passing_stops : k ≢ 1 → false ≡ all (is_trace_read s) trace
-  passing_stops n = sym (left false (ne_eqb k 1 n))
-
-  pub passing_next : k ≡ 1 → Passing s trace (i + 1)
-  passing_next e = record { within = omega arith; all_left = left true (eq-eqb k 1 e) }
+  pub passing_next : true ≡ is_trace_read s (get_or trace i 0) → Passing s trace (i + 1)
+  passing_next e = record { within = omega arith; all_left = left true e }
 
 pub passing_ends : (s : Settings) (trace : List ℕ) (i : ℕ) → Passing s trace i → length trace ≤ i → true ≡ all (is_trace_read s) trace
 unfolding all
@@ -82,13 +92,14 @@ module _ (s : Settings) (words : List ℕ) where
   unfolding is_no_trace
   by_words l b e = sym (rw (le-ltb most_reads (length words) l, ← e) refl)
 
-  pub number_refused : (n : ℕ) → n ≡ settings_number s → n ≢ 0 → n ≡ compare_number s words
+  -- refused for the settings, and where these are legal, for the trace or not at all
+  pub check_refused : (why : Refusal) → number why ≡ settings_number s → number why ≡ compare_number s words
   unfolding compare_number
-  number_refused n is z = is ∙ sym (rw (ne_eqb (settings_number s) 0 (λ e. z (is ∙ e))) refl)
+  check_refused why is = is ∙ sym (rw (ne_eqb (settings_number s) 0 (λ e. number_some why (is ∙ e))) refl)
 
-  pub number_by_trace : (n : ℕ) → n ≡ settings_number s → n ≡ 0 → (b : Bool) → b ≡ is_no_trace s words → (when b then 14 else 0) ≡ compare_number s words
+  pub check_trace : 0 ≡ settings_number s → (b : Bool) → b ≡ is_no_trace s words → (when b then 14 else 0) ≡ compare_number s words
   unfolding compare_number
-  number_by_trace n is z b e = sym (rw (eq-eqb (settings_number s) 0 (sym is ∙ z), ← e) refl)
+  check_trace legal b e = sym (rw (eq-eqb (settings_number s) 0 (sym legal), ← e) refl)
 
 -- ---- differences
 
@@ -111,37 +122,38 @@ module _ (a b : ℕ) (h : a ≤ 4096) (g : b ≤ 4096) where
 
 -- ---- the figures
 
-pub figures_even : (l c o : ℕ) → l ≡ o → record { number = 0; lru = l; chosen = c; opt = o; gain = pos 0; possible = 0 } ≡ figures l c o
-unfolding figures
-figures_even l c o e = sym (rw (eq-eqb l o e) refl)
+module _ (l c o : ℕ) where
+  pub figures_even : l ≡ o → (g : ℤ) → g ≡ pos 0 → (p : ℕ) → p ≡ l - o
+      → record { number = 0; lru = l; chosen = c; opt = o; gain = g; possible = p } ≡ figures l c o
+  unfolding figures
+  figures_even e g z p q =
+      let none : p ≡ 0 = omega arith in
+      sym (rw (eq-eqb l o e, ← z, ← none) refl)
 
-pub figures_apart : (l c o : ℕ) → l ≢ o → (g : ℤ) → g ≡ pos l -ℤ pos c
-    → record { number = 0; lru = l; chosen = c; opt = o; gain = g; possible = l - o } ≡ figures l c o
-unfolding figures
-figures_apart l c o n g e = sym (rw (ne_eqb l o n, ← e) refl)
+  pub figures_apart : l ≢ o → (g : ℤ) → g ≡ pos l -ℤ pos c → (p : ℕ) → p ≡ l - o
+      → record { number = 0; lru = l; chosen = c; opt = o; gain = g; possible = p } ≡ figures l c o
+  unfolding figures
+  figures_apart n g e p q = sym (rw (ne_eqb l o n, ← e, ← q) refl)
 
 -- ---- the comparison
 
 pub by_same : (x y : Settings) (t : List ℕ) (l : ℕ) → l ≡ ins_of x t → x ≡ y → l ≡ ins_of y t
 by_same x y t l e q = e ∙ ap (λ z. ins_of z t) q
 
-module _ (s : Settings) (words : List ℕ) (n : ℕ) (is : n ≡ compare_number s words) where
-  pub declined_is : n ≢ 0 → declined n ≡ compared s words
+module _ (s : Settings) (words : List ℕ) where
+  pub declined_is : (why : Refusal) → number why ≡ compare_number s words → declined (number why) ≡ compared s words
   unfolding compared
-  declined_is z = sym (rw (← is, ne_eqb n 0 z) refl)
+  declined_is why is = sym (rw (← is, ne_eqb (number why) 0 (number_some why)) refl)
 
-  module _ (z : n ≡ 0) where
+  module _ (is : 0 ≡ compare_number s words) where
     fine : Accepted s words
-    fine = accepted s words (sym is ∙ z)
+    fine = accepted s words (sym is)
 
-    pub chosen_ready : (settings_number s ≡ 0) × Trace s words
-    chosen_ready = (fine.is_legal, fine.trace)
+    pub chosen_ready : Trace s words
+    chosen_ready = fine.trace
 
-    pub lru_ready : (settings_number (lru s) ≡ 0) × Trace (lru s) words
-    lru_ready = (
-      number_zero (lru s) (lru_legal s (legal_settings s fine.is_legal)),
-      record { few = fine.trace.few; inside = fine.trace.inside },
-    )
+    pub lru_ready : Trace (lru s) words
+    lru_ready = record { few = fine.trace.few; inside = fine.trace.inside }
 
     pub opt_ready : TraceReady words s.n
     opt_ready =
@@ -158,4 +170,4 @@ module _ (s : Settings) (words : List ℕ) (n : ℕ) (is : n ≡ compare_number 
 
       pub figures_are : (r : Compared) → r ≡ figures l c o → r ≡ compared s words
       unfolding compared
-      figures_are r e = e ∙ rw (l-is, c-is, o_is) (sym (rw (← is, eq-eqb n 0 z) refl))
+      figures_are r e = e ∙ rw (l-is, c-is, o_is) (sym (rw (← is) refl))

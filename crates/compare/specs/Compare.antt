@@ -1,6 +1,6 @@
 -- What the new rule gains on a trace of reads (SCOPE, "What the new rule gains"): the number of a comparison and its five figures; then what
 -- is proved of them. Assumes nothing.
-use Rattle.std.specs.Prelude.{ℕ, ◌+◌, ◌-◌, ◌≤◌, ◌≡◌, ◌≢◌, Bool, ◌||◌, not, List, [], map, length, pos, ◌-ℤ◌, eqb, ltb}
+use Rattle.std.specs.Prelude.{ℕ, ◌+◌, ◌-◌, ◌≤◌, ◌≡◌, ◌≢◌, Bool, ◌||◌, not, List, [], map, length, ℤ, pos, ◌-ℤ◌, eqb, ltb, Result, Ok, Err}
 use Rattle.std.specs.Int.Signed.{mag}
 use Rattle.basics.specs.Basics.{when◌then◌else◌}
 use Rattle.basics.specs.Lists.{all}
@@ -10,7 +10,9 @@ use Rattle.stack.specs.Stack.{empty}
 use Rattle.stack.specs.Batch.{work, is_read, plain_run}
 use Rattle.opt.specs.Opt.{opt_ins}
 use Rattle.opt.specs.Ins.{trace_of, most_reads, ins_of, lru}
-use Rattle.compare.specs.declared.Compared.{Compared}
+use Rattle.refusals.specs.declared.Refusal.{Refusal}
+use Rattle.refusals.specs.Refusals.{number}
+use Rattle.compare.specs.declared.Figures.{Figures}
 
 -- ---- the number
 
@@ -34,6 +36,15 @@ compare_number s words =
 
 -- ---- the figures
 
+-- The number of a comparison and its five figures.
+pub record Compared : Type 0 where
+  pub number : ℕ
+  pub lru : ℕ
+  pub chosen : ℕ
+  pub opt : ℕ
+  pub gain : ℤ
+  pub possible : ℕ
+
 -- The ins under LRU, under the chosen settings and under OPT; LRU − chosen, which may be negative, and LRU − OPT. If the latter is 0, no
 -- improvement is given and both are 0.
 unfoldable pub figures : ℕ → ℕ → ℕ → Compared
@@ -45,6 +56,11 @@ figures l c o =
 -- any refusal has all figures 0
 abbrev pub declined : ℕ → Compared
 declined n = record { number = n; lru = 0; chosen = 0; opt = 0; gain = pos 0; possible = 0 }
+
+-- what a call returns, as this table has it
+abbrev pub shown : Result Figures Refusal → Compared
+shown (Ok f) = record { number = 0; lru = f.lru; chosen = f.chosen; opt = f.opt; gain = f.gain; possible = f.possible }
+shown (Err why) = declined (number why)
 
 unfoldable pub compared : Settings → List ℕ → Compared
 unfolding compare_number figures ins_of opt_ins

@@ -3,7 +3,13 @@ use Prim.Native.Nat.{ℕ, ◌≤◌, ◌<◌}
 use native.Mathlib.Omega.{arith}
 use mathlib.Core.Path.{◌≡◌, refl, ap, ◌∙◌}
 use mathlib.Core.List.{List, [], ◌∷◌}
+use mathlib.Core.Bool.{Bool, true, false}
+use mathlib.Core.Logic.{◌≢◌}
 use lib.ListN.{length}
+use Rattle.std.proofs.Common.{Some, None, unwrap_or}
+use Rattle.basics.specs.Basics.{pick}
+use Rattle.layout.specs.Sound.{sound}
+use Rattle.promises.specs.Occupancy.{occupancy_number, table_in, no_figures}
 use lib.IntN.{ℤ, pos}
 use lib.Signed.{mag}
 use borrow.Author.Tests.{le-leb, lt-leb}
@@ -12,11 +18,9 @@ use mir.Val.{to_z, of_z}
 use mir.ValLaws.{to_z-of_z}
 use Rattle.settings.specs.declared.Settings.{Settings}
 use Rattle.promises.specs.Promises.{over}
-use Rattle.compare.specs.declared.Compared.{Compared}
-use Rattle.compare.specs.Compare.{compared, Small}
+use Rattle.compare.specs.Compare.{Compared, compared, Small}
 use Rattle.compare.proofs.CompareLaws.{small}
 use Rattle.fbr.specs.Fronts.{fitted}
-use Rattle.fbr.specs.FrontLaws.{stores, stores_over}
 use Rattle.fbr.specs.Comparison.{compared_figures, compared_returns}
 
 pub signed_is : (x : ℕ) → x ≤ 4096 → to_z w32 x ≡ pos x
@@ -32,18 +36,33 @@ stored_small z h = to_z-of_z w32 z (record { sfits = omega arith })
 stored_as : (z : ℤ) (x : ℕ) → z ≡ pos x → x ≤ 4096 → stored z ≡ pos x
 stored_as z x e h = ap stored e ∙ stored_small (pos x) h
 
-pub put_done : (out : List ℤ) → 5 ≤ length out → (c : Compared) → Small c → (l k o p : ℤ)
+pub put_done : (out : List ℤ) (c : Compared) → Small c → (l k o p : ℤ)
     → l ≡ pos c.lru → k ≡ pos c.chosen → o ≡ pos c.opt → p ≡ pos c.possible
-    → stores (stored l ∷ stored k ∷ stored o ∷ stored c.gain ∷ stored p ∷ []) 0 out ≡ over (compared_figures c) out
-put_done out h c s l k o p el ek eo ep =
+    → over (stored l ∷ stored k ∷ stored o ∷ stored c.gain ∷ stored p ∷ []) out ≡ over (compared_figures c) out
+put_done out c s l k o p el ek eo ep =
     rw (
       stored_as l c.lru el s.lru_few,
       stored_as k c.chosen ek s.chosen_few,
       stored_as o c.opt eo s.opt_few,
       stored_small c.gain s.gain_few,
       stored_as p c.possible ep s.possible_few,
-    )
-    (stores_over (compared_figures c) out h)
+    ) refl
+
+-- ---- a number or none
+
+pub given_or : (b : Bool) (x : ℕ) → unwrap_or (pick b (Some x) None) 0 ≡ pick b x 0
+given_or true x = refl
+given_or false x = refl
+
+-- ---- the figures of an unsound directory
+
+pub no_table : (words : List ℕ) → occupancy_number words ≢ 0 → table_in words ≡ no_figures
+unfolding occupancy_number table_in
+no_table words some = go (sound words) refl
+  where
+    go : (b : Bool) → sound words ≡ b → table_in words ≡ no_figures
+    go true e = absurd (some (rw e refl))
+    go false e = rw e refl
 
 -- ---- the call
 

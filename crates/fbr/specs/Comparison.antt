@@ -1,8 +1,7 @@
 -- What `fbr_compare` writes and returns (SCOPE, "What the new rule gains"). Assumes nothing.
 use Rattle.std.specs.Prelude.{ℕ, List, [], ◌∷◌, ℤ, pos}
 use Rattle.settings.specs.declared.Settings.{Settings}
-use Rattle.compare.specs.declared.Compared.{Compared}
-use Rattle.compare.specs.Compare.{compared}
+use Rattle.compare.specs.Compare.{Compared, compared}
 use Rattle.fbr.specs.Fronts.{figures_number}
 
 -- ins under LRU, under the chosen settings and under OPT, LRU − chosen, LRU − OPT

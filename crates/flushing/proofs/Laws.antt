@@ -6,7 +6,8 @@ use mathlib.Core.Bool.{Bool, true, false}
 use mathlib.Core.List.{List, [], ◌∷◌, map}
 use mathlib.Core.Option.{some}
 use lib.ListN.{length, get_or, get_elem?}
-use Rattle.basics.specs.Basics.{block_at, put_block}
+use mir.Val.{bool_byte}
+use Rattle.basics.specs.Basics.{bit, block_at, put_block}
 use Rattle.stack.specs.declared.Marks.{Marks}
 use Rattle.stack.specs.Recency.{Resident}
 use Rattle.layout.specs.Sound.{resident_at, residents_in}
@@ -20,17 +21,15 @@ use Rattle.cache_steps.specs.FlushLists.{chosen, passed, chosen_set}
 use Rattle.cache_steps.specs.FlushStep.{Flushing, flush_clean, flush_modified, flush_seen, flush_length, flush_ready}
 use Rattle.flushing.specs.Standing.{Standing, EntryReady}
 
--- ---- whether a resident is written out, by its marks
+-- ---- a test as a number
 
-module _ (marks : Marks) (tick : Bool) where
-  pub due_seen : tick ≡ true → marks.modified ≡ true → marks.seen ≡ chosen tick marks
-  due_seen on set = rw (on, set)
+pub as_bit : (b : Bool) → bool_byte b ≡ bit b
+as_bit true = refl
+as_bit false = refl
 
-  pub not_due : tick ≡ true → marks.modified ≡ false → false ≡ chosen tick marks
-  not_due on clear = rw (on, clear)
-
-  pub flush_chosen : tick ≡ false → marks.modified ≡ chosen tick marks
-  flush_chosen off = rw off
+pub bit_few : (b : Bool) {n : ℕ} → n ≡ bool_byte b → n ≤ 1
+bit_few true is = omega (arith, is)
+bit_few false is = omega (arith, is)
 
 -- ---- the resident at a position
 
@@ -56,9 +55,6 @@ here_is w p e h = at_entry w p h.resident h.here ∙ ap (resident_at w) h.entry
 module _ (m : Memory) (size e : ℕ) (r : EntryReady m size e) where
   h : Here (residents_in m.directory) r.position e
   h = of_standing m.directory r.position e r.standing
-
-  pub size_few : size ≤ 4096
-  size_few = rw r.size_is (sound_legal m.directory r.ready.is_sound).few_bytes
 
   pub entry_some : 1 ≤ e
   entry_some = rw (← h.entry) (resident_fit m r.ready r.position h.here).least

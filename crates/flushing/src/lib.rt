@@ -3,6 +3,7 @@
 #![tactic(auto)]
 
 ghost use Rattle.std.specs.Prelude.{◌≡◌, List, [], ℕ, ◌+◌, ◌≤◌};
+ghost use Rattle.basics.specs.Basics.{bit};
 ghost use Rattle.stack.specs.Stack.{flushed};
 ghost use Rattle.layout.specs.Sound.{settings_in};
 ghost use Rattle.promises.specs.Demand3.{Memory};
@@ -13,20 +14,18 @@ ghost use Rattle.flushing.specs.Standing.{Standing, EntryReady};
 
 use stack::Marks;
 
-// Whether a resident with these marks is written out.
+// Whether a resident with these marks is written out. By a flag, as the definition has it: flush and tick differ in this test alone.
 fn goes_out(marks: Marks, tick: bool) -> bool
     ensures { result ≡ chosen tick marks }
 {
     if tick {
-        if marks.modified {
-            return marks.seen;
-        }
-        return false;
+        marks.modified && marks.seen
+    } else {
+        marks.modified
     }
-    marks.modified
 }
 
-// What a flush or a tick does at the resident of entry e: it is written out, or has seen the tick, or stays; how many blocks went out.
+// What a flush or a tick does at the resident of entry e: it is written out, or has seen the tick, or stays; whether it went out.
 fn flush_entry(
     dir: &mut [u32],
     bytes: &[u8],
@@ -34,41 +33,41 @@ fn flush_entry(
     size: u32,
     e: u32,
     tick: bool,
-) -> u32
+) -> bool
     requires { EntryReady (memory dir.old bytes.now store.old) size e }
-    ensures { ((start : Memory) (p n : ℕ) → Ready start
+    ensures { (start : Memory) (p n : ℕ) → Ready start
         → Flushing tick start p (memory dir.old bytes.now store.old) n
         → Standing dir.old p e
-        → Flushing tick start (p + 1) (memory dir.new bytes.now store.new) (n + result)) × (result ≤ 1) }
+        → Flushing tick start (p + 1) (memory dir.new bytes.now store.new) (n + bit result) }
 {
     let marks = directory::marks_of(dir, e);
     if goes_out(marks, tick) {
         let block = directory::block_of(dir, e);
         blocks::move_block(bytes, e - 1, store, block, size);
         directory::clean(dir, e);
-        return 1;
+        return true;
     }
     if marks.modified {
         directory::see_tick(dir, e);
     }
-    0
+    false
 }
 
-// A flush or a tick: every resident from the head of the stack to the tail; how many were written out.
+// A flush or a tick: every resident from the head of the stack to the tail; how many were written out. Inlined for speed: each of the two
+// then has its own loop.
+#[inline(always)]
 pub fn flush(dir: &mut [u32], bytes: &[u8], store: &mut [u8], size: u32, tick: bool) -> u32
     requires { Ready (memory dir.old bytes.now store.old) × (size ≡ (settings_in dir.old).b) }
     ensures { ((incoming : List ℕ) → Carried (memory dir.old bytes.now store.old) (sweep tick) incoming
         (memory dir.new bytes.now store.new) (flushed result) []) × (result ≤ 4096) }
 {
-    let count = directory::residents(dir);
+    // The entry is carried along: a resident's turn changes the directory that says who is next.
     let mut e = directory::first(dir);
     let mut written = 0;
-    let mut p = 0;
-    while p < count {
+    for _ in 0..directory::residents(dir) {
         let behind = directory::next(dir, e);
-        written += flush_entry(dir, bytes, store, size, e, tick);
+        written += u32::from(flush_entry(dir, bytes, store, size, e, tick));
         e = behind;
-        p += 1;
     }
     written
 }

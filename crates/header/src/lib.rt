@@ -6,7 +6,7 @@ ghost use Rattle.layout.specs.Sound.{settings_in, total_at, totals_in};
 use settings::Settings;
 
 // The totals since fresh.
-#[derive(Clone, Copy)]
+#[derive(Clone, Copy, Debug, PartialEq, Eq)]
 pub struct Totals {
     pub reads: u64, // read words carried out, hits included
     pub writes: u64, // write words
@@ -15,29 +15,32 @@ pub struct Totals {
 }
 
 // The settings that a directory's header holds.
+#[tactic(auto, unfolding(layout::specs::Sound::settings_in))]
 pub fn settings_in(dir: &[u32]) -> Settings
     ensures { result ≡ settings_in dir.now }
 {
     Settings {
-        n: words::value(dir, layout::CACHE_BLOCKS),
-        nnew: words::value(dir, layout::NEW_BLOCKS),
-        nold: words::value(dir, layout::OLD_BLOCKS),
-        cmax: words::value(dir, layout::CHAIN_LIMIT),
-        amax: words::value(dir, layout::AVERAGE_LIMIT),
-        b: words::value(dir, layout::BLOCK_SIZE),
-        m: words::value(dir, layout::STORE_BLOCKS),
+        n: words::get(dir, layout::CACHE_BLOCKS),
+        nnew: words::get(dir, layout::NEW_BLOCKS),
+        nold: words::get(dir, layout::OLD_BLOCKS),
+        cmax: words::get(dir, layout::CHAIN_LIMIT),
+        amax: words::get(dir, layout::AVERAGE_LIMIT),
+        b: words::get(dir, layout::BLOCK_SIZE),
+        m: words::get(dir, layout::STORE_BLOCKS),
     }
 }
 
 // A total, from its two words: value mod 2^28, then value div 2^28.
-pub fn total_at(dir: &[u32], word: u32) -> u64
+pub fn total_at(dir: &[u32], word: usize) -> u64
     requires { word < 100 }
     ensures { result ≡ total_at dir.now word }
 {
-    words::value(dir, word) as u64 + 268435456 * (words::value(dir, word + 1) as u64)
+    u64::from(words::get(dir, word))
+        + u64::from(words::VALUES) * u64::from(words::get(dir, word + 1))
 }
 
 // The read words and write words carried out.
+#[tactic(auto, using(words::specs::WordLaws::val_small), unfolding(layout::specs::Sound::totals_in))]
 pub fn references(dir: &[u32]) -> u64
     ensures { result ≡ (totals_in dir.now).reads + (totals_in dir.now).writes }
 {
@@ -45,6 +48,7 @@ pub fn references(dir: &[u32]) -> u64
 }
 
 // The totals that a directory's header holds.
+#[tactic(auto, unfolding(layout::specs::Sound::totals_in))]
 pub fn totals_in(dir: &[u32]) -> Totals
     ensures { (result.reads ≡ (totals_in dir.now).reads) × (result.writes ≡ (totals_in dir.now).writes)
         × (result.ins ≡ (totals_in dir.now).ins) × (result.outs ≡ (totals_in dir.now).outs) }

@@ -1,9 +1,9 @@
 -- Xorshift steps one to one: `back` undoes `step` and `step` undoes `back`, over all states. So no two states step to one, and none but 0
 -- steps to 0.
 use Rattle.std.specs.Prelude.{ℕ, ◌+◌, ◌*◌, ◌/◌, ◌%◌, ◌^◌, ◌≡◌}
-use Rattle.std.proofs.Common.{arith, add_comm, add-zero, mul_assoc, mul_comm, mod-lt, add-mul, div-add-mod', lt_of_le_of_lt, sym, ap, ap₂, ◌∙◌, pow_pos, pow-add, shr-shr}
+use Rattle.std.proofs.Common.{arith, add_comm, add-zero, mul_assoc, mul_comm, add-mul, div-add-mod', sym, ap, ap₂, ◌∙◌, pow_pos, pow-add, shr-shr}
 use Rattle.std.proofs.Math.Nat.{mul-mod_left, mul-add-mod_self_right, div-eq_of_lt}
-use Rattle.std.proofs.lemmas.Nat.{shr_le, xor_block, xor_mod, xor_shr, xor_lt}
+use Rattle.std.proofs.lemmas.Nat.{xor_block, xor_mod, xor_shr}
 use Rattle.std.specs.Int.Bits.{bit_xor, xor_zero_r}
 use Rattle.load.specs.Xorshift.{State, left, right, mixed, step, back, NeverToZero, OneToOne, Inverse}
 use Rattle.load.proofs.StateLaws.{left_state, step_state, back_state}

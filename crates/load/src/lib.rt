@@ -1,26 +1,21 @@
 // A test load that anybody can repeat: work words drawn from the states of Marsaglia's 32-bit xorshift.
 #![tactic(auto)]
 
-ghost use Rattle.std.specs.Prelude.{◌≡◌, length, T};
+ghost use Rattle.std.specs.Prelude.{◌≡◌, ◌<◌, ◌↔◌, IsNone, unwrap_or, length, T};
+ghost use Rattle.refusals.specs.Refusals.{outcome};
 ghost use Rattle.settings.specs.Numbers.{legal_store};
 ghost use Rattle.load.specs.Xorshift.{step};
 ghost use Rattle.load.specs.Load.{load_word, load, declines, load_state, Load};
 
-// The numbers of the call.
-const ACCEPTED: u32 = 0;
-
-const BAD_LOAD: u32 = 13;
+use refusals::Refusal;
 
 // The most words of one call.
 const MOST_WORDS: u32 = 1024;
 
-// The kinds of its words, in the top 4 bits.
+// The kinds of its words, in the top 4 bits, as C has them.
 const READ: u32 = 268435456;
 
 const WRITE: u32 = 536870912;
-
-// What the companion returns where too many words are asked for: no load has this state.
-const NO_STATE: u32 = 0;
 
 // The next state. A shift to the left is cut to 32 bits.
 fn step(x: u32) -> u32
@@ -38,9 +33,10 @@ fn load_word(m: u32, x: u32) -> u32
 {
     let block = x / 4 % m;
     if x % 4 == 0 {
-        return WRITE + block;
+        WRITE + block
+    } else {
+        READ + block
     }
-    READ + block
 }
 
 // A load over a whole slice: each word from the next state.
@@ -49,12 +45,10 @@ fn fill(seed: u32, m: u32, words: &mut [u32])
     ensures { words.new ≡ load m seed (length words.old) }
 {
     let mut state = seed;
-    let mut i = 0;
-    while i < words.len() {
+    for word in words.iter_mut() {
         let next = step(state);
-        words[i] = load_word(m, next);
+        *word = load_word(m, next);
         state = next;
-        i += 1;
     }
 }
 
@@ -75,30 +69,29 @@ fn declines(seed: u32, m: u32, count: u32, room: usize) -> bool
 }
 
 // A load of count words at the front of words; 13 where it is declined, and words then stay.
-pub fn load(seed: u32, m: u32, count: u32, words: &mut [u32]) -> u32
-    ensures { Load seed m count words.old result words.new }
+pub fn load(seed: u32, m: u32, count: u32, words: &mut [u32]) -> Result<(), Refusal>
+    ensures { Load seed m count words.old (outcome result) words.new }
 {
     let room = words.len();
     if declines(seed, m, count, room) {
-        return BAD_LOAD;
+        return Err(Refusal::BadLoad);
     }
     let asked = count as usize;
     fill(seed, m, &mut words[..asked]);
-    ACCEPTED
+    Ok(())
 }
 
-// The state after count words, from which a load goes on; 0 where the seed is 0 or over 1,024 words are asked for.
-pub fn load_state(seed: u32, count: u32) -> u32
-    ensures { result ≡ load_state seed count }
+// The state after count words, from which a load goes on; none where over 1,024 words are asked for. Seed 0, which no load has, stays 0.
+pub fn load_state(seed: u32, count: u32) -> Option<u32>
+    ensures state { unwrap_or result 0 ≡ load_state seed count }
+    ensures too_many { IsNone result ↔ (1024 < count) }
 {
     if count > MOST_WORDS {
-        return NO_STATE;
+        return None;
     }
     let mut state = seed;
-    let mut more = count;
-    while more > 0 {
+    for _ in 0..count {
         state = step(state);
-        more -= 1;
     }
-    state
+    Some(state)
 }

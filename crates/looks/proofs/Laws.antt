@@ -4,7 +4,7 @@ use native.Mathlib.Omega.{arith}
 use native.Mathlib.Nat.{zero-add}
 use mathlib.Core.Path.{◌≡◌, sym, ◌∙◌}
 use mathlib.Core.List.{List, []}
-use mathlib.Core.Option.{some}
+use Rattle.std.proofs.Math.Option.{none, some}
 use lib.ListN.{length}
 use lib.Dec.{T}
 use borrow.Author.Tests.{eq-eqb, ne_eqb}
@@ -15,9 +15,6 @@ use Rattle.stack.proofs.PlaceLaws.{all_found}
 use Rattle.stack.proofs.EntriesLaws.{Fit}
 use Rattle.layout.specs.Sound.{settings_in, sound, resident_at, residents_in}
 use Rattle.layout.proofs.SoundLaws.{sound_residents}
-use Rattle.layout.specs.declared.Found.{Found}
-use Rattle.layout.specs.declared.Found.TheVariants.{At, Absent}
-use Rattle.promises.specs.DirectoryPromises.{found_resident}
 use Rattle.promises.specs.Looks.{place_at, look_number, look_bytes, look_place}
 use Rattle.promises.proofs.LookLaws.{LookAllowed, look_allowed}
 use Rattle.cache_steps.specs.Carried.{Ready, memory}
@@ -54,28 +51,27 @@ module _ (w bytes store : List ℕ) (block n : ℕ) (number : n ≡ look_number 
       pub store_holds : block * s.b + s.b ≤ length store
       store_holds = rw e (store_room (memory w bytes store) ready block its.inside)
 
-      -- with what the lookup yields
-      module _ {f : Found} (found : lookup block (residents_in w) ≡ found_resident w f) where
-        pub of_store : (inData inStore : ℕ × ℕ) → f ≡ Absent → {part : List ℕ} {place : ℕ × ℕ}
-            → (part ≡ block_at s.b block store) × (place ≡ place_at s.b block inStore) → Held inData inStore part place
-        unfolding look_bytes look_place
-        of_store inData inStore absent h =
-            (rw (← number, eq-eqb n 0 zero, found, absent) (rw e at h.0), rw (← number, eq-eqb n 0 zero, found, absent) (rw e at h.1))
+      -- by what the lookup yields
+      pub of_store : lookup block (residents_in w) ≡ none → (inData inStore : ℕ × ℕ) {part : List ℕ} {place : ℕ × ℕ}
+          → (part ≡ block_at s.b block store) × (place ≡ place_at s.b block inStore) → Held inData inStore part place
+      unfolding look_bytes look_place
+      of_store absent inData inStore h =
+          (rw (← number, eq-eqb n 0 zero, absent) (rw e at h.0), rw (← number, eq-eqb n 0 zero, absent) (rw e at h.1))
 
-        module _ {entry : ℕ} (there : f ≡ At entry) where
-          fit : Fit (settings_in w) (resident_at w entry)
-          fit = found_fit w is_sound block (resident_at w entry) (rw there at found)
+      module _ (entry : ℕ) (there : lookup block (residents_in w) ≡ some (resident_at w entry)) where
+        fit : Fit (settings_in w) (resident_at w entry)
+        fit = found_fit w is_sound block (resident_at w entry) there
 
-          pub entry_least : 1 ≤ entry
-          unfolding resident_at
-          entry_least = fit.least
+        pub entry_least : 1 ≤ entry
+        unfolding resident_at
+        entry_least = fit.least
 
-          pub data_holds : (entry - 1) * s.b + s.b ≤ length bytes
-          unfolding resident_at
-          data_holds = rw e (entry_room (settings_in w) bytes ready.bytes_long entry fit.least fit.most)
+        pub data_holds : (entry - 1) * s.b + s.b ≤ length bytes
+        unfolding resident_at
+        data_holds = rw e (entry_room (settings_in w) bytes ready.bytes_long entry fit.least fit.most)
 
-          pub of_data : (inData inStore : ℕ × ℕ) {part : List ℕ} {place : ℕ × ℕ}
-              → (part ≡ block_at s.b (entry - 1) bytes) × (place ≡ place_at s.b (entry - 1) inData) → Held inData inStore part place
-          unfolding look_bytes look_place resident_at
-          of_data inData inStore h =
-              (rw (← number, eq-eqb n 0 zero, found, there) (rw e at h.0), rw (← number, eq-eqb n 0 zero, found, there) (rw e at h.1))
+        pub of_data : (inData inStore : ℕ × ℕ) {part : List ℕ} {place : ℕ × ℕ}
+            → (part ≡ block_at s.b (entry - 1) bytes) × (place ≡ place_at s.b (entry - 1) inData) → Held inData inStore part place
+        unfolding look_bytes look_place resident_at
+        of_data inData inStore h =
+            (rw (← number, eq-eqb n 0 zero, there) (rw e at h.0), rw (← number, eq-eqb n 0 zero, there) (rw e at h.1))

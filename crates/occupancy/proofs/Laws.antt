@@ -10,24 +10,29 @@ use lib.Seq.{take-length, length-take-le}
 use Rattle.basics.specs.Basics.{All, bit, total}
 use Rattle.stack.specs.Recency.{Resident}
 use Rattle.stack.specs.Counts.{Legal}
-use Rattle.stack.specs.Occupancy.{class_of, column}
-use Rattle.stack.proofs.OccupancyLaws.{raised, column_more, column_few}
+use Rattle.stack.specs.Occupancy.{class_of, column, table}
+use Rattle.stack.proofs.OccupancyLaws.{raised, column_more, column_few, class_below}
 use Rattle.layout.specs.Sound.{order, sound, resident_at, residents_in, view}
 use Rattle.layout.proofs.SoundLaws.{sound_legal, sound_residents, sound_kept}
 use Rattle.promises.specs.DirectoryPromises.{entry_at, NextOf}
 use Rattle.promises.specs.Occupancy.{no_figures}
+use Rattle.occupancy.specs.declared.Table.{Table}
 use Rattle.occupancy.specs.Walk.{Shows, Room, Walked}
 
 -- ---- one resident more
 
-pub shows_more : (residents modified : List ℕ) (l : List (Resident ℕ)) (x : Resident ℕ) (class mark : ℕ)
+pub shows_more : (t : Table) (l : List (Resident ℕ)) (x : Resident ℕ) (class mark : ℕ)
     → Legal x.count → class ≡ class_of x.count → mark ≡ bit x.marks.modified
-    → Shows residents modified l → Shows (raised residents class 1) (raised modified class mark) (l ++ (x ∷ []))
-shows_more residents modified l x class mark legal class-is mark_is shows =
+    → Shows t (table l) → Shows (record { residents = raised t.residents class 1; modified = raised t.modified class mark }) (table (l ++ (x ∷ [])))
+shows_more t l x class mark legal class-is mark_is shows =
     record {
       residents_are = rw (class-is, shows.residents_are) (sym (column_more (λ y. true) l x legal));
       modified_are = rw (class-is, mark_is, shows.modified_are) (sym (column_more (λ y. y.marks.modified) l x legal));
     }
+
+-- the class of a count
+pub class_fits : (class count listed : ℕ) → class ≡ class_of count → count ≡ listed → Legal listed → class < 8
+class_fits class count listed class-is count-is legal = rw (class-is, count-is) (class_below listed legal)
 
 -- ---- along the stack
 
@@ -43,18 +48,19 @@ module _ (words : List ℕ) where
   one_further (e ∷ es) zero h = refl
   one_further (e ∷ es) (suc p) h = ap (λ l. resident_at words e ∷ l) (one_further es p (omega arith))
 
-  at_position_lem : (P : Resident ℕ → Type 0) (es : List ℕ) (p : ℕ) → p < length es → All P (listed es) → P (resident_at words (entry_at (listed es) p))
+  at_position_lem : (P : Resident ℕ → Type 0) (es : List ℕ) (p : ℕ) → p < length es → All P (listed es)
+      → P (resident_at words (entry_at (listed es) p))
   unfolding resident_at
   at_position_lem P [] p h a = absurd (omega arith)
   at_position_lem P (e ∷ es) zero h a = a.0
   at_position_lem P (e ∷ es) (suc p) h a = at_position_lem P es p (omega arith) a.1
 
-  pub walk_begins : (residents modified : List ℕ) (e : ℕ) → residents ≡ no_figures.residents → modified ≡ no_figures.modified
-      → e ≡ entry_at (residents_in words) 0 → Walked words 0 residents modified e
+  pub walk_begins : (e : ℕ) → e ≡ entry_at (residents_in words) 0
+      → Walked words 0 (record { residents = no_figures.residents; modified = no_figures.modified }) e
   unfolding column total
-  walk_begins residents modified e r m first = record { shows = record { residents_are = r; modified_are = m }; entry = first }
+  walk_begins e first = record { shows = record { residents_are = refl; modified_are = refl }; entry = first }
 
-  module _ (h : T (sound words)) (p : ℕ) (residents modified : List ℕ) (e : ℕ) (w : Walked words p residents modified e) where
+  module _ (h : T (sound words)) (p : ℕ) (t : Table) (e : ℕ) (w : Walked words p t e) where
     few : length (residents_in words) ≤ 4096
     few = omega (arith, (sound_residents words h).few, (sound_legal words h).few_blocks)
 
@@ -67,7 +73,7 @@ module _ (words : List ℕ) where
           let n : length (take p (residents_in words)) ≡ p = length-take-le p (residents_in words) (omega arith) in
           omega (arith, column_few test (take p (residents_in words)) i, n, left, few)
 
-      pub room : Room residents modified (resident_at words e).count
+      pub room : Room t (resident_at words e).count
       unfolding view
       room =
           record {
@@ -77,16 +83,16 @@ module _ (words : List ℕ) where
           }
 
       -- behind the resident at position p
-      pub walk_goes_on : (r m : List ℕ) (next : ℕ) → Shows r m (take p (residents_in words) ++ (resident_at words e ∷ []))
-          → NextOf words e next → Walked words (p + 1) r m next
-      walk_goes_on r m next shows n =
+      pub walk_goes_on : (more : Table) (next : ℕ) → Shows more (table (take p (residents_in words) ++ (resident_at words e ∷ [])))
+          → NextOf words e next → Walked words (p + 1) more next
+      walk_goes_on more next shows n =
           let next-p : suc p ≡ p + 1 = omega arith in
           let further : take p (residents_in words) ++ (resident_at words e ∷ []) ≡ take (p + 1) (residents_in words) =
           rw (w.entry, ← next-p) (sym (one_further (order words) p inside)) in
           record {
-            shows = subst (Shows r m) further shows;
+            shows = subst (λ l. Shows more (table l)) further shows;
             entry = n.along_stack p left (sym w.entry);
           }
 
-    pub walk_ends : p ≡ length (residents_in words) → Shows residents modified (residents_in words)
-    walk_ends e = subst (Shows residents modified) (ap (λ n. take n (residents_in words)) e ∙ take-length (residents_in words)) w.shows
+    pub walk_ends : p ≡ length (residents_in words) → Shows t (table (residents_in words))
+    walk_ends e = subst (λ l. Shows t (table l)) (ap (λ n. take n (residents_in words)) e ∙ take-length (residents_in words)) w.shows

@@ -1,30 +1,28 @@
 // Occupancy by count class: how many residents each class has, and how many of these are modified. Nothing is written.
 #![tactic(auto)]
 
-ghost use Rattle.std.specs.Prelude.{◌≡◌, List, [], ◌∷◌, ◌++◌, ℕ, T};
+ghost use Rattle.std.specs.Prelude.{◌≡◌, List, [], ◌∷◌, ◌++◌, ℕ, T, IfOk};
+ghost use Rattle.refusals.specs.Refusals.{outcome};
 ghost use Rattle.stack.specs.Recency.{Resident};
 ghost use Rattle.stack.specs.Occupancy.{class_of, table};
 ghost use Rattle.layout.specs.Sound.{sound, resident_at, residents_in};
 ghost use Rattle.promises.specs.Occupancy.{occupancy_number, table_in};
 ghost use Rattle.occupancy.specs.Walk.{Shows, Room};
 
-// The numbers of the call.
-const ACCEPTED: u32 = 0;
-
-const UNSOUND: u32 = 6;
+use refusals::Refusal;
 
 // How many classes there are.
 pub const CLASSES: usize = 8;
 
-// The number, and for each class its residents and how many of these are modified.
+// For each class its residents, and how many of these are modified. Two columns, and not an array of classes: the scope's table and C have
+// the one column behind the other.
 #[derive(Clone, Copy)]
 pub struct Table {
-    pub number: u32,
     pub residents: [u32; CLASSES],
     pub modified: [u32; CLASSES],
 }
 
-// The class of a count, by its place among the eight; their number for what is no count.
+// The class of a count, by its place among the eight; their number for what is no count. One match with ranges, as the scope names it.
 fn class_of(count: u32) -> usize
     ensures { result ≡ class_of count }
 {
@@ -42,53 +40,42 @@ fn class_of(count: u32) -> usize
 }
 
 // The resident of entry e is counted in its class.
-fn and_resident(dir: &[u32], e: u32, residents: &mut [u32; CLASSES], modified: &mut [u32; CLASSES])
-    requires { T (sound dir.now) × Room residents.old modified.old (resident_at dir.now e).count }
-    ensures { (l : List (Resident ℕ)) → Shows residents.old modified.old l
-        → Shows residents.new modified.new (l ++ (resident_at dir.now e ∷ [])) }
+fn and_resident(dir: &[u32], e: u32, figures: &mut Table)
+    requires { T (sound dir.now) × Room figures.old (resident_at dir.now e).count }
+    ensures { (l : List (Resident ℕ)) → Shows figures.old (table l) → Shows figures.new (table (l ++ (resident_at dir.now e ∷ []))) }
 {
+    // Both are read before either is counted: a store between two reads makes the back end read the header again.
     let class = class_of(directory::count_of(dir, e));
-    let marks = directory::marks_of(dir, e);
-    let mark = marks.modified as u32;
-    residents[class] += 1;
-    modified[class] += mark;
+    let modified = u32::from(directory::marks_of(dir, e).modified);
+    figures.residents[class] += 1;
+    figures.modified[class] += modified;
 }
 
 // The table of a sound directory, resident by resident along the stack.
 fn table_of(dir: &[u32]) -> Table
     requires { T (sound dir.now) }
-    ensures { (result.number ≡ 0) × (result.residents ≡ (table (residents_in dir.now)).residents)
-        × (result.modified ≡ (table (residents_in dir.now)).modified) }
+    ensures { Shows result (table (residents_in dir.now)) }
 {
-    let count = directory::residents(dir);
-    let mut residents = [0; CLASSES];
-    let mut modified = [0; CLASSES];
+    let mut figures = Table {
+        residents: [0; CLASSES],
+        modified: [0; CLASSES],
+    };
     let mut e = directory::first(dir);
-    let mut p = 0;
-    while p < count {
-        let behind = directory::next(dir, e);
-        and_resident(dir, e, &mut residents, &mut modified);
-        e = behind;
-        p += 1;
+    for _ in 0..directory::residents(dir) {
+        and_resident(dir, e, &mut figures);
+        e = directory::next(dir, e);
     }
-    Table {
-        number: ACCEPTED,
-        residents: residents,
-        modified: modified,
-    }
+    figures
 }
 
-// The occupancy of a directory, for any slice of words: 6 and sixteen 0s where they are not sound.
-pub fn occupancy(dir: &[u32]) -> Table
-    ensures { (result.number ≡ occupancy_number dir.now) × (result.residents ≡ (table_in dir.now).residents)
-        × (result.modified ≡ (table_in dir.now).modified) }
+// The occupancy of a directory, for any slice of words.
+#[tactic(auto, unfolding(promises::specs::Occupancy::occupancy_number, promises::specs::Occupancy::table_in))]
+pub fn occupancy(dir: &[u32]) -> Result<Table, Refusal>
+    ensures number { outcome result ≡ occupancy_number dir.now }
+    ensures figures { IfOk result (λ t. Shows t (table_in dir.now)) }
 {
     if !soundness::sound(dir) {
-        return Table {
-            number: UNSOUND,
-            residents: [0; CLASSES],
-            modified: [0; CLASSES],
-        };
+        return Err(Refusal::Unsound);
     }
-    table_of(dir)
+    Ok(table_of(dir))
 }

@@ -1,4 +1,5 @@
 -- The resident of a block, by the synonyms of its bucket. Assumes nothing.
+use Rattle.std.specs.Prelude.{Option as Optional, Some, None}
 use Rattle.std.specs.Prelude.{ℕ, zero, suc, ◌+◌, ◌*◌, ◌≤◌, ◌≡◌, Bool, true, false, ◌⊎◌, List, [], ◌∷◌, ◌++◌, eqb, length}
 use Rattle.std.proofs.Math.Path.{refl, ap, subst⁻¹}
 use Rattle.std.proofs.Common.{◌∙◌, sym, true≢false, inl, inr, ⊎_elim, arith, length-append, eq-eqb, ne_eqb}
@@ -18,8 +19,6 @@ use Rattle.linkage.specs.Fields.{Shape, Fields, base, entry, bucket, BUCKET-HEAD
 use Rattle.linkage.specs.WellLinked.{WellLinked, Bucket, Entry}
 use Rattle.word_ops.specs.Lists.{word_of}
 use Rattle.word_ops.specs.Buckets.{searched, found}
-use Rattle.layout.specs.declared.Found.{Found}
-use Rattle.layout.specs.declared.Found.TheVariants.{At, Absent}
 use Rattle.operations.specs.Directory.{Directory}
 use Rattle.operations.specs.Laws.{all_below, distinct_join}
 use Rattle.operations.specs.Residents.{resident, residents_of}
@@ -33,8 +32,8 @@ soughtD D b zero x = 0
 soughtD D b (suc n) x = let r = soughtD D b n (D NEXT-SYNONYM x) in pick (eqb x 0) 0 (pick (eqb (D BLOCK x) b) x r)
 
 -- what the code answers for it
-abbrev pub answer : ℕ → Found
-answer e = pick (eqb e 0) Absent (At e)
+abbrev pub answer : ℕ → Optional ℕ
+answer e = pick (eqb e 0) None (Some e)
 
 -- the words' walk is the fields'
 searched_view : (s : Shape) (w : List ℕ) (D : Fields) (b n x : ℕ) (zs : List ℕ) → View s w D → Run (D NEXT-SYNONYM) x zs 0 → Off 0 zs
@@ -51,7 +50,7 @@ searched_view s w D b (suc n) x (z ∷ zs) v r o a =
     searched_view s w D b n (D NEXT-SYNONYM x) zs v (rw r.0 r.1) o.1 a.1 in
     rw (p, q, k) (go (eqb (D BLOCK x) b) (eqb x 0) refl (ne_eqb x 0 (λ c. o.0 (sym c ∙ r.0))))
   where
-    go : (t u : Bool) → eqb x 0 ≡ u → u ≡ false → pick u Absent (pick t (At x) (answer (soughtD D b n (D NEXT-SYNONYM x)))) ≡ answer
+    go : (t u : Bool) → eqb x 0 ≡ u → u ≡ false → pick u None (pick t (Some x) (answer (soughtD D b n (D NEXT-SYNONYM x)))) ≡ answer
         (pick u 0 (pick t x (soughtD D b n (D NEXT-SYNONYM x))))
     go t true e c = absurd (true≢false c)
     go true false e c = rw e
@@ -175,13 +174,13 @@ module _ (s : Shape) (D : Fields) (residents unused : List ℕ) (g : WellLinked 
 -- ---- over the words
 
 -- what an answer says
-abbrev pub Told : Shape → Fields → ℕ → List ℕ → Found → Type 0
-Told s D b residents Absent = NoneHas s D b
-Told s D b residents (At e) = Holder D b residents e
+abbrev pub Told : Shape → Fields → ℕ → List ℕ → Optional ℕ → Type 0
+Told s D b residents None = NoneHas s D b
+Told s D b residents (Some e) = Holder D b residents e
 
-abbrev pub as_option : Fields → Found → Option (Resident ℕ)
-as_option D Absent = none
-as_option D (At e) = some (resident D e)
+abbrev pub as_option : Fields → Optional ℕ → Option (Resident ℕ)
+as_option D None = none
+as_option D (Some e) = some (resident D e)
 
 module _ (s : Shape) (w : List ℕ) (D : Fields) (residents unused : List ℕ) (b n : ℕ) (g : Directory s w D residents unused) where
   abbrev r : ℕ
@@ -210,6 +209,6 @@ module _ (s : Shape) (w : List ℕ) (D : Fields) (residents unused : List ℕ) (
   pub find_seen : s.N ≤ n → lookup b (residents_of D residents) ≡ as_option D (found w (base s) n (24 + 2 * s.cmax + s.hash b) b)
   find_seen h = lookup_seen s D residents unused g.linked b n h ∙ rw found_view (go (eqb r 0))
     where
-      go : (t : Bool) → (when t then none else some (resident D r)) ≡ as_option D (pick t Absent (At r))
+      go : (t : Bool) → (when t then none else some (resident D r)) ≡ as_option D (pick t None (Some r))
       go true = refl
       go false = refl

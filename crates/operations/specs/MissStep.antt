@@ -1,5 +1,6 @@
 -- A block that no resident has is read or written, over the words of a directory, with the residents and totals of the stack
 -- after it. Assumes nothing.
+use Rattle.std.specs.Prelude.{None}
 use Rattle.std.specs.Prelude.{ℕ, ◌+◌, ◌*◌, ◌≤◌, ◌<◌, ◌≡◌, refl, Bool, true, false, not, List, ◌∷◌, ◌++◌, length}
 use Rattle.std.proofs.Common.{◌∙◌, ap, subst, arith}
 use Rattle.std.proofs.Math.Path.{sym}
@@ -18,7 +19,6 @@ use Rattle.word_ops.specs.Lists.{word_of}
 use Rattle.word_ops.specs.Buckets.{found}
 use Rattle.word_ops.specs.Mark.{is_marked}
 use Rattle.word_ops.specs.Totals.{out_counted}
-use Rattle.layout.specs.declared.Found.TheVariants.{Absent}
 use Rattle.operations.specs.Directory.{Directory}
 use Rattle.operations.specs.FieldOps.{enterD}
 use Rattle.operations.specs.Seen.{address}
@@ -54,7 +54,7 @@ module _ (t : Settings) (s : Shape) (of : Of t s) (w : List ℕ) (D : Fields) (s
       Stands t s w' (asked block written e q) (totals_after written q (totals_of D))
 
   none_has : (residents unused : List ℕ) (links : ℕ) → Directory s w D residents unused → s.N ≤ links
-      → found w (base s) links (24 + 2 * s.cmax + s.hash block) block ≡ Absent → NoneHas s D block
+      → found w (base s) links (24 + 2 * s.cmax + s.hash block) block ≡ None → NoneHas s D block
   none_has residents unused links g budget here = subst (Told s D block residents) here (find_is s w D residents unused block links g budget)
 
   -- ---- an unused entry is left
@@ -96,7 +96,7 @@ module _ (t : Settings) (s : Shape) (of : Of t s) (w : List ℕ) (D : Fields) (s
 
   -- A MISS that enters the first unused entry
   pub enter_asked : (residents : List ℕ) (e : ℕ) (unused : List ℕ) (links : ℕ) (written : Bool) → Directory s w D residents (e ∷ unused)
-      → s.N ≤ links → found w (base s) links (24 + 2 * s.cmax + s.hash block) block ≡ Absent
+      → s.N ≤ links → found w (base s) links (24 + 2 * s.cmax + s.hash block) block ≡ None
       → let q = place t block (residents_of D residents) in Stands t s (entered_for s w block written) (asked block written e q)
       (totals_after written q (totals_of D))
   enter_asked residents e unused links written g budget here =
@@ -168,7 +168,7 @@ module _ (t : Settings) (s : Shape) (of : Of t s) (w : List ℕ) (D : Fields) (s
 
   -- A MISS that replaces the block of entry e, where the victim stands: a block out is counted if it was modified
   pub replace_asked : (residents unused : List ℕ) (links looked e : ℕ) (written : Bool) → Directory s w D residents unused → s.N ≤ links
-      → found w (base s) links (24 + 2 * s.cmax + s.hash block) block ≡ Absent → length residents ≡ s.N → Chosen t D residents looked e
+      → found w (base s) links (24 + 2 * s.cmax + s.hash block) block ≡ None → length residents ≡ s.N → Chosen t D residents looked e
       → let q = place t block (residents_of D residents) in
       Stands t s (out_counted (val w (word_of (base s) e MODIFIED)) (replaced_for s w (val w (word_of (base s) e BLOCK)) e block written))
       (asked block written e q) (totals_after written q (totals_of D))

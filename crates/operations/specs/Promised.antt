@@ -1,5 +1,6 @@
 -- The directory's promises, of the words that the code leaves: reads and writes (a hit, an unused entry, the victim's) and purges, from
 -- every sound directory. Assumes nothing.
+use Rattle.std.specs.Prelude.{Option as Optional, Some, None}
 use Prim.Native.Nat.{ℕ, suc, ◌+◌, ◌-◌, ◌*◌, ◌^◌, ◌≤◌, ◌<◌}
 use Rattle.std.proofs.Math.Path.{◌≡◌, refl, ap, subst}
 use Rattle.std.proofs.Common.{◌∙◌, sym}
@@ -40,9 +41,6 @@ use Rattle.word_ops.specs.Halve.{halved as halvedWords, over_average, settled as
 use Rattle.word_ops.specs.Mark.{is_marked}
 use Rattle.word_ops.specs.Totals.{out_counted, access_counted}
 use Rattle.word_ops.specs.declared.Picked.{Picked}
-use Rattle.word_ops.specs.declared.Victim.TheVariants.{At as VictimAt, AllPinned}
-use Rattle.layout.specs.declared.Found.{Found}
-use Rattle.layout.specs.declared.Found.TheVariants.{At, Absent}
 use Rattle.operations.specs.Directory.{Directory}
 use Rattle.operations.specs.Residents.{Of, resident}
 use Rattle.operations.specs.Stands.{Stands, stands_sum, settle_step}
@@ -85,24 +83,24 @@ module _ (w : List ℕ) (h : T (sound w)) where
 
   -- ---- what the code's lookup finds
 
-  found_of : (block e : ℕ) → lookup block l ≡ some (resident_at w e) → found_in s w s.N block ≡ At e
+  found_of : (block e : ℕ) → lookup block l ≡ some (resident_at w e) → found_in s w s.N block ≡ Some e
   unfolding resident_at
   found_of block e here = go (found_in s w s.N block) (sym (lookup_word t s of w l (totals_in w) g block s.N (omega arith)) ∙ here)
     where
-      go : (r : Found) → answered s w r ≡ some (resident_at w e) → r ≡ At e
-      go Absent q = let z : ◌≡◌ {A = ℕ} 0 1 = cc in absurd (omega arith)
-      go (At e') q = ap At (ap (λ o. held_of o) q)
+      go : (r : Optional ℕ) → answered s w r ≡ some (resident_at w e) → r ≡ Some e
+      go None q = let z : ◌≡◌ {A = ℕ} 0 1 = cc in absurd (omega arith)
+      go (Some e') q = ap Some (ap (λ o. held_of o) q)
         where
           held_of : Option (Resident ℕ) → ℕ
           held_of none = 0
           held_of (some x) = x.held
 
-  absent_of : (block : ℕ) → lookup block l ≡ none → found_in s w s.N block ≡ Absent
+  absent_of : (block : ℕ) → lookup block l ≡ none → found_in s w s.N block ≡ None
   absent_of block gone = go (found_in s w s.N block) (sym (lookup_word t s of w l (totals_in w) g block s.N (omega arith)) ∙ gone)
     where
-      go : (r : Found) → answered s w r ≡ none → r ≡ Absent
-      go Absent q = refl
-      go (At e') q = let z : ◌≡◌ {A = ℕ} 0 1 = cc in absurd (omega arith)
+      go : (r : Optional ℕ) → answered s w r ≡ none → r ≡ None
+      go None q = refl
+      go (Some e') q = let z : ◌≡◌ {A = ℕ} 0 1 = cc in absurd (omega arith)
 
   -- ---- a read or a write, once the counts are looked at
 
@@ -233,7 +231,7 @@ module _ (w : List ℕ) (h : T (sound w)) where
 
   -- A BLOCK that no resident has REPLACES the victim, where no entry is unused. Counts are not halved.
   pub replace_accessed : (block : ℕ) (p : Picked) (written : Bool) → Room w → block < t.m → lookup block l ≡ none → val w UNUSED ≡ 0
-      → victim_from w (base s) (suc s.N) s.cmax 1 ≡ VictimAt p
+      → victim_from w (base s) (suc s.N) s.cmax 1 ≡ Some p
       → Accessed 20 w block written p.entry
       (replaced (val w (word_of (base s) p.entry BLOCK)) p.chains (is_marked (val w (word_of (base s) p.entry MODIFIED))))
       (replace_words p.entry block written)
@@ -250,7 +248,7 @@ module _ (w : List ℕ) (h : T (sound w)) where
 
   -- IT IS REFUSED, where all are pinned: the read or the write is counted, and nothing else moves.
   pub refused_accessed : (block : ℕ) (written : Bool) → Room w → lookup block l ≡ none → val w UNUSED ≡ 0
-      → victim_from w (base s) (suc s.N) s.cmax 1 ≡ AllPinned → Accessed 0 w block written 0 miss_refused (access_counted written w)
+      → victim_from w (base s) (suc s.N) s.cmax 1 ≡ None → Accessed 0 w block written 0 miss_refused (access_counted written w)
   unfolding entry_for answering asked settings_in
   refused_accessed block written r gone none_left v =
       let here = absent_of block gone in

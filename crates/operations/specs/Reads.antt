@@ -1,5 +1,6 @@
 -- What is read off the words of a sound directory one at a time: how many residents there are, whether an entry is unused, what a
 -- lookup finds, how many entries the search for a victim looks at, the residents along the stack. Assumes nothing.
+use Rattle.std.specs.Prelude.{Option, Some, None}
 use Rattle.std.specs.Prelude.{ℕ, zero, suc, ◌+◌, ◌*◌, ◌≤◌, ◌<◌, ◌≡◌, ◌≢◌, List, [], ◌∷◌, map, T, length, get_or}
 use Rattle.std.proofs.Math.Path.{refl}
 use Rattle.std.proofs.Common.{◌∙◌, sym, ap, arith}
@@ -11,8 +12,6 @@ use Rattle.words.specs.Words.{val}
 use Rattle.stack.specs.Recency.{lookup}
 use Rattle.layout.specs.Addresses.{CACHE-BLOCKS, RESIDENTS, HEAD, UNUSED, TO-TAIL}
 use Rattle.layout.specs.Sound.{settings_in, totals_in, sound, resident_at, residents_in}
-use Rattle.layout.specs.declared.Found.{Found}
-use Rattle.layout.specs.declared.Found.TheVariants.{At, Absent}
 use Rattle.promises.specs.DirectoryPromises.{found_resident, entry_at}
 use Rattle.linkage.specs.Fields.{Shape, Fields, base, ends, view_get}
 use Rattle.linkage.specs.WellLinked.{Entry, WellLinked}
@@ -68,9 +67,9 @@ module _ (w : List ℕ) (h : T (sound w)) where
       lookup_word (settings_in w) s (of_sound w h) w (residents_in w) (totals_in w) g block (val w CACHE-BLOCKS) (omega arith)
       ∙ go (found_in s w (val w CACHE-BLOCKS) block)
     where
-      go : (r : Found) → answered s w r ≡ found_resident w r
-      go Absent = refl
-      go (At e) = refl
+      go : (r : Option ℕ) → answered s w r ≡ found_resident w r
+      go None = refl
+      go (Some e) = refl
 
   -- A replacement's search, from every sound directory: it looks at Cmax + 1 entries, and at two more for each pinned resident, at most.
   pub search_bound : looked_from w (base s) (suc s.N) s.cmax 1

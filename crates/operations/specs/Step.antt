@@ -1,4 +1,5 @@
 -- A hit and a purge over the words of a directory, with the residents and totals of the stack after them. Assumes nothing.
+use Rattle.std.specs.Prelude.{Some}
 use Rattle.std.specs.Prelude.{ℕ, suc, ◌+◌, ◌*◌, ◌≤◌, ◌<◌, ◌≡◌, refl, Bool, true, false, List, ◌∷◌, ◌++◌}
 use Rattle.std.proofs.Common.{◌∙◌, sym, ap, subst}
 use Rattle.settings.specs.declared.Settings.{Settings}
@@ -9,7 +10,6 @@ use Rattle.word_ops.specs.Hit.{hit}
 use Rattle.word_ops.specs.Purge.{purged}
 use Rattle.word_ops.specs.Buckets.{found}
 use Rattle.word_ops.specs.Totals.{access_counted}
-use Rattle.layout.specs.declared.Found.TheVariants.{At}
 use Rattle.operations.specs.Directory.{Directory}
 use Rattle.operations.specs.FieldOps.{hitD, purgeD}
 use Rattle.operations.specs.Hit.{hit_sound}
@@ -78,7 +78,7 @@ module _ (t : Settings) (s : Shape) (of : Of t s) (w : List ℕ) (D : Fields) (u
 
   -- A HIT, of a block that the code's lookup found
   pub hit_asked : (residents : List ℕ) (block links e : ℕ) (written : Bool) → Directory s w D residents unused → s.N ≤ links
-      → found w (base s) links (24 + 2 * s.cmax + s.hash block) block ≡ At e
+      → found w (base s) links (24 + 2 * s.cmax + s.hash block) block ≡ Some e
       → let q = place t block (residents_of D residents) in Stands t s (hit_for s w e written) (asked block written e q)
       (totals_after written q (totals_of D))
   hit_asked residents block links e written g budget here =
@@ -110,7 +110,7 @@ module _ (t : Settings) (s : Shape) (w : List ℕ) (D : Fields) (unused : List �
 
   -- A PURGE of a block that the code's lookup found
   pub purge_step : (residents : List ℕ) (block links e : ℕ) → Directory s w D residents unused → s.N ≤ links
-      → found w (base s) links (24 + 2 * s.cmax + s.hash block) block ≡ At e
+      → found w (base s) links (24 + 2 * s.cmax + s.hash block) block ≡ Some e
       → Stands t s (purged w (base s) s.cmax (suc s.N) (24 + 2 * s.cmax + s.hash block) e) (removed block (residents_of D residents))
       (totals_of D)
   purge_step residents block links e g budget here =

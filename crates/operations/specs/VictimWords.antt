@@ -1,4 +1,6 @@
 -- The search for a victim over the words of a directory: the theory of `victims` at linkage's facts. Assumes nothing.
+use Rattle.word_ops.specs.declared.Picked.{Picked}
+use Rattle.std.specs.Prelude.{Option}
 use Rattle.std.specs.Prelude.{ℕ, ◌+◌, ◌-◌, ◌*◌, ◌≤◌, ◌≡◌, refl, List, length}
 use Rattle.std.proofs.Common.{◌∙◌, sym, arith}
 use Rattle.basics.specs.Lists.{those}
@@ -8,7 +10,6 @@ use Rattle.layout.specs.Addresses.{TAIL, TO-HEAD, chain_tail}
 use Rattle.linkage.specs.Fields.{Shape, Fields, base, entry, ends, chain as chained, CHAIN-TAILS, view_get}
 use Rattle.linkage.specs.Positions.{mark}
 use Rattle.word_ops.specs.Lists.{word_of}
-use Rattle.word_ops.specs.declared.Victim.{Victim}
 use Rattle.word_ops.specs.Victim.{victim_from}
 use Rattle.victims.specs.Linked.{Linked, Worded}
 use Rattle.victims.specs.Chosen.{Answers, Chosen as ChosenBy, Refused as RefusedBy, victim_is}
@@ -24,7 +25,7 @@ Chosen t D residents n e = ChosenBy t (counts_pins (residents_of D residents)) D
 abbrev pub Refused : Settings → Fields → List ℕ → Type 0
 Refused t D residents = RefusedBy t (counts_pins (residents_of D residents)) D residents
 
-abbrev pub Searched : Settings → Fields → List ℕ → Victim → Type 0
+abbrev pub Searched : Settings → Fields → List ℕ → Option Picked → Type 0
 Searched t D residents v = Answers t (counts_pins (residents_of D residents)) D residents v
 
 module _ (s : Shape) (w : List ℕ) (D : Fields) (residents unused : List ℕ) (g : Directory s w D residents unused) (t : Settings) (of : Of t s) where

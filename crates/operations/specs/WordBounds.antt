@@ -1,5 +1,6 @@
 -- How many link words each operation changes, of words that stand for a stack. Where counts are halved besides, halving changes more.
 -- Assumes nothing.
+use Rattle.std.specs.Prelude.{Some, None}
 use Rattle.std.specs.Prelude.{ℕ, suc, ◌+◌, ◌*◌, ◌≤◌, ◌<◌, ◌≡◌, refl, Bool, true, false, List, [], ◌∷◌, ◌++◌}
 use Rattle.std.proofs.Common.{◌∙◌, subst, arith}
 use Rattle.basics.specs.Basics.{All}
@@ -17,8 +18,6 @@ use Rattle.word_ops.specs.Victim.{victim_from}
 use Rattle.word_ops.specs.Purge.{purged}
 use Rattle.word_ops.specs.Totals.{access_counted, out_counted}
 use Rattle.word_ops.specs.declared.Picked.{Picked}
-use Rattle.word_ops.specs.declared.Victim.TheVariants.{At as VictimAt}
-use Rattle.layout.specs.declared.Found.TheVariants.{At, Absent}
 use Rattle.operations.specs.Directory.{Directory}
 use Rattle.operations.specs.Seen.{address}
 use Rattle.operations.specs.Enter.{NoneHas}
@@ -48,12 +47,12 @@ module _ (t : Settings) (s : Shape) (of : Of t s) (w : List ℕ) (l : List (Resi
   told : (block links : ℕ) → s.N ≤ links → Told s D block g.order (found_in s w links block)
   told block links budget = find_is s w D g.order g.unused block links g.directory budget
 
-  here : (block links e : ℕ) → s.N ≤ links → found_in s w links block ≡ At e → Entry s e
+  here : (block links e : ℕ) → s.N ≤ links → found_in s w links block ≡ Some e → Entry s e
   here block links e budget q =
       let k : Holder D block g.order e = subst (Told s D block g.order) q (told block links budget) in
       entry_of s D g.order k.before e k.behind k.whole (alive s D g.order g.unused g.directory.linked)
 
-  pub hit_links : (block links e : ℕ) (written : Bool) → Room w → s.N ≤ links → found_in s w links block ≡ At e → Within 16 w (hit_for s w e written)
+  pub hit_links : (block links e : ℕ) (written : Bool) → Room w → s.N ≤ links → found_in s w links block ≡ Some e → Within 16 w (hit_for s w e written)
   hit_links block links e true r budget q =
       write_hit_within s w D g.order g.unused (countable t s of w l totals g r) g.directory e (here block links e budget q)
   hit_links block links e false r budget q =
@@ -67,7 +66,7 @@ module _ (t : Settings) (s : Shape) (of : Of t s) (w : List ℕ) (l : List (Resi
       go (e ∷ ys) d = enter_miss_within s w D g.order e ys block written (countable t s of w l totals g r) d
 
   pub replace_links : (block links reach : ℕ) (p : Picked) (written : Bool) → Room w → block < s.M → s.N ≤ links → s.N ≤ reach
-      → found_in s w links block ≡ Absent → val w UNUSED ≡ 0 → victim_from w (base s) reach s.cmax 1 ≡ VictimAt p
+      → found_in s w links block ≡ None → val w UNUSED ≡ 0 → victim_from w (base s) reach s.cmax 1 ≡ Some p
       → let e : ℕ = p.entry in
       Within 20 w (out_counted (val w (word_of (base s) e MODIFIED)) (replaced_for s w (val w (word_of (base s) e BLOCK)) e block written))
   replace_links block links reach p written r room budget enough q z v =
@@ -87,7 +86,7 @@ module _ (t : Settings) (s : Shape) (of : Of t s) (w : List ℕ) (l : List (Resi
   pub refused_links : (written : Bool) → Room w → Within 0 w (access_counted written w)
   refused_links written r = access_within s w D g.order g.unused (countable t s of w l totals g r) g.directory written
 
-  pub purge_links : (block links e : ℕ) → s.N ≤ links → found_in s w links block ≡ At e
+  pub purge_links : (block links e : ℕ) → s.N ≤ links → found_in s w links block ≡ Some e
       → Within 15 w (purged w (base s) s.cmax (suc s.N) (24 + 2 * s.cmax + s.hash block) e)
   purge_links block links e budget q =
       purge_within s w D g.directory.view (suc s.N) (24 + 2 * s.cmax + s.hash block) e (here block links e budget q)

@@ -1,5 +1,6 @@
 -- What asking for a block comes to, read off words that stand for a stack: the answer and the totals follow from it.
 -- Assumes nothing.
+use Rattle.std.specs.Prelude.{Some, None}
 use Rattle.std.specs.Prelude.{ℕ, ◌≤◌, ◌<◌, ◌≡◌, List, [], ◌∷◌, ◌++◌, length}
 use Rattle.std.proofs.Common.{◌∙◌, sym, ap, ap₂, subst, arith}
 use Rattle.words.specs.Words.{val}
@@ -14,8 +15,6 @@ use Rattle.word_ops.specs.Lists.{word_of}
 use Rattle.word_ops.specs.Hit.{raised_count}
 use Rattle.word_ops.specs.Victim.{victim_from}
 use Rattle.word_ops.specs.declared.Picked.{Picked}
-use Rattle.word_ops.specs.declared.Victim.TheVariants.{At as VictimAt, AllPinned}
-use Rattle.layout.specs.declared.Found.TheVariants.{At, Absent}
 use Rattle.operations.specs.Seen.{section_word, count_word}
 use Rattle.operations.specs.Enter.{NoneHas}
 use Rattle.operations.specs.Residents.{Of, resident, residents_of}
@@ -60,7 +59,7 @@ module _ (t : Settings) (s : Shape) (of : Of t s) (w : List ℕ) (l : List (Resi
   told block links budget = find_is s w D g.order g.unused block links g.directory budget
 
   -- A HIT, and the count then
-  pub place_found : (block links e : ℕ) → s.N ≤ links → found_in s w links block ≡ At e
+  pub place_found : (block links e : ℕ) → s.N ≤ links → found_in s w links block ≡ Some e
       → place t block l ≡ found (counted (raised_count (val w (word_of (base s) e SECTION)) (val w (word_of (base s) e COUNT))) (resident_at s w e))
       (removed block l)
   place_found block links e budget q =
@@ -75,7 +74,7 @@ module _ (t : Settings) (s : Shape) (of : Of t s) (w : List ℕ) (l : List (Resi
       (resident_word t s of w l totals g e he) g.seen)
 
   -- A MISS while an entry is unused
-  pub place_entered : (block links : ℕ) → s.N ≤ links → found_in s w links block ≡ Absent → ¬ (val w UNUSED ≡ 0) → place t block l ≡ unused l
+  pub place_entered : (block links : ℕ) → s.N ≤ links → found_in s w links block ≡ None → ¬ (val w UNUSED ≡ 0) → place t block l ≡ unused l
   place_entered block links budget q left =
       ap (place t block) (sym g.seen)
       ∙ place_unused t D block g.order (missing s D g.order g.unused block g.directory.linked
@@ -87,8 +86,8 @@ module _ (t : Settings) (s : Shape) (of : Of t s) (w : List ℕ) (l : List (Resi
       some (e ∷ ys) d = omega (arith, d.stack.whole, of.blocks_is)
 
   -- A MISS where none is, and the victim
-  pub place_replaced : (block links reach : ℕ) (p : Picked) → s.N ≤ links → s.N ≤ reach → found_in s w links block ≡ Absent → val w UNUSED ≡ 0
-      → victim_from w (base s) reach s.cmax 1 ≡ VictimAt p
+  pub place_replaced : (block links reach : ℕ) (p : Picked) → s.N ≤ links → s.N ≤ reach → found_in s w links block ≡ None → val w UNUSED ≡ 0
+      → victim_from w (base s) reach s.cmax 1 ≡ Some p
       → let e : ℕ = p.entry in
       place t block l ≡ replacing (resident_at s w e) (removed (resident_at s w e).block l)
   place_replaced block links reach p budget enough q z v =
@@ -103,8 +102,8 @@ module _ (t : Settings) (s : Shape) (of : Of t s) (w : List ℕ) (l : List (Resi
       ∙ ap₂ (λ (x : Resident ℕ) (m : List (Resident ℕ)). replacing x (removed x.block m)) (resident_word t s of w l totals g e he) g.seen
 
   -- or none, as all are pinned
-  pub place_bound : (block links reach : ℕ) → s.N ≤ links → s.N ≤ reach → found_in s w links block ≡ Absent → val w UNUSED ≡ 0
-      → victim_from w (base s) reach s.cmax 1 ≡ AllPinned → place t block l ≡ all_pinned l
+  pub place_bound : (block links reach : ℕ) → s.N ≤ links → s.N ≤ reach → found_in s w links block ≡ None → val w UNUSED ≡ 0
+      → victim_from w (base s) reach s.cmax 1 ≡ None → place t block l ≡ all_pinned l
   place_bound block links reach budget enough q z v =
       ap (place t block) (sym g.seen)
       ∙ place_refused t D block g.order

@@ -1,5 +1,6 @@
 -- Each operation from words that stand for a stack to words that stand for the stack after it: what is asked is asked of the words.
 -- Assumes nothing.
+use Rattle.std.specs.Prelude.{Option as Optional, Some, None}
 use Rattle.std.specs.Prelude.{ℕ, suc, ◌+◌, ◌*◌, ◌≤◌, ◌<◌, ◌-◌, ◌^◌, ◌≡◌, refl, Bool, true, false, not, List, [], ◌∷◌, ◌++◌, length}
 use Rattle.std.proofs.Common.{◌∙◌, ap, subst, arith}
 use Rattle.std.proofs.Math.Path.{sym, ap₂}
@@ -23,10 +24,7 @@ use Rattle.word_ops.specs.Victim.{victim_from}
 use Rattle.word_ops.specs.Purge.{purged}
 use Rattle.word_ops.specs.Halve.{over_average}
 use Rattle.word_ops.specs.Totals.{access_counted, out_counted}
-use Rattle.layout.specs.declared.Found.{Found}
 use Rattle.word_ops.specs.declared.Picked.{Picked}
-use Rattle.word_ops.specs.declared.Victim.TheVariants.{At as VictimAt, AllPinned}
-use Rattle.layout.specs.declared.Found.TheVariants.{At, Absent}
 use Rattle.operations.specs.Directory.{Directory}
 use Rattle.operations.specs.Seen.{address}
 use Rattle.operations.specs.Miss.{Countable, accessD, access_sound, entered_for, replaced_for}
@@ -55,12 +53,12 @@ resident_at s w e =
     }
 
 -- what the code's lookup of a block yields
-abbrev pub found_in : Shape → List ℕ → ℕ → ℕ → Found
+abbrev pub found_in : Shape → List ℕ → ℕ → ℕ → Optional ℕ
 found_in s w links block = found w (base s) links (24 + 2 * s.cmax + s.hash block) block
 
-abbrev pub answered : Shape → List ℕ → Found → Option (Resident ℕ)
-answered s w Absent = none
-answered s w (At e) = some (resident_at s w e)
+abbrev pub answered : Shape → List ℕ → Optional ℕ → Option (Resident ℕ)
+answered s w None = none
+answered s w (Some e) = some (resident_at s w e)
 
 module _ (t : Settings) (s : Shape) (of : Of t s) (w : List ℕ) (l : List (Resident ℕ)) (totals : Totals) (g : Stands t s w l totals) where
   abbrev D : Fields
@@ -115,21 +113,21 @@ module _ (t : Settings) (s : Shape) (of : Of t s) (w : List ℕ) (l : List (Resi
       ap (lookup block) (sym g.seen) ∙ find_seen s w D g.order g.unused block links g.directory budget
       ∙ go (found_in s w links block) (find_is s w D g.order g.unused block links g.directory budget)
     where
-      go : (r : Found) → Told s D block g.order r → as_option D r ≡ answered s w r
-      go Absent k = refl
-      go (At e) k = ap some (resident_word e (entry_at k.before e k.behind k.whole))
+      go : (r : Optional ℕ) → Told s D block g.order r → as_option D r ≡ answered s w r
+      go None k = refl
+      go (Some e) k = ap some (resident_word e (entry_at k.before e k.behind k.whole))
 
   -- ---- a read or a write
 
   -- A HIT
-  pub hit_word : (block links e : ℕ) (written : Bool) → Room w → s.N ≤ links → found_in s w links block ≡ At e
+  pub hit_word : (block links e : ℕ) (written : Bool) → Room w → s.N ≤ links → found_in s w links block ≡ Some e
       → Stands t s (hit_for s w e written) (asked block written e (place t block l)) (totals_after written (place t block l) totals)
   hit_word block links e written r budget here =
       carry (hit_for s w e written) (λ m. asked block written e (place t block m)) (λ m v. totals_after written (place t block m) v)
       (hit_asked t s of w D g.unused (countable r) (small r) g.given g.order block links e written g.directory budget here)
 
   -- A MISS while an entry is unused
-  pub enter_word : (block links : ℕ) (written : Bool) → Room w → block < s.M → s.N ≤ links → found_in s w links block ≡ Absent → ¬ (val w UNUSED ≡ 0)
+  pub enter_word : (block links : ℕ) (written : Bool) → Room w → block < s.M → s.N ≤ links → found_in s w links block ≡ None → ¬ (val w UNUSED ≡ 0)
       → Stands t s (entered_for s w block written) (asked block written (val w UNUSED) (place t block l))
       (totals_after written (place t block l) totals)
   enter_word block links written r room budget here left =
@@ -156,19 +154,19 @@ module _ (t : Settings) (s : Shape) (of : Of t s) (w : List ℕ) (l : List (Resi
           absurd (d.linked.stack.free.some.0 (sym z ∙ header_is UNUSED (omega arith) (omega arith) (omega arith) ∙ q))
 
   -- THE VICTIM, where the search finds one; the chains looked at are those defined
-  pub chosen_word : (links : ℕ) (p : Picked) → s.N ≤ links → val w UNUSED ≡ 0 → victim_from w (base s) links s.cmax 1 ≡ VictimAt p
+  pub chosen_word : (links : ℕ) (p : Picked) → s.N ≤ links → val w UNUSED ≡ 0 → victim_from w (base s) links s.cmax 1 ≡ Some p
       → Chosen t D g.order p.chains p.entry
   chosen_word links p budget z q =
       subst (Searched t D g.order) q (found_victim s w D g.order g.unused g.directory t of links budget (full_word z))
 
-  pub looked_word : (links : ℕ) (p : Picked) → s.N ≤ links → val w UNUSED ≡ 0 → victim_from w (base s) links s.cmax 1 ≡ VictimAt p
+  pub looked_word : (links : ℕ) (p : Picked) → s.N ≤ links → val w UNUSED ≡ 0 → victim_from w (base s) links s.cmax 1 ≡ Some p
       → p.chains ≡ chains t (counts_pins l)
   looked_word links p budget z q =
       (chosen_word links p budget z q).looked ∙ ap (λ (m : List (Resident ℕ)). chains t (counts_pins m)) g.seen
 
   -- A MISS where no entry is unused: the victim's block, if modified, is counted out
   pub replace_word : (block links reach : ℕ) (p : Picked) (written : Bool) → Room w → block < s.M → s.N ≤ links → s.N ≤ reach
-      → found_in s w links block ≡ Absent → val w UNUSED ≡ 0 → victim_from w (base s) reach s.cmax 1 ≡ VictimAt p
+      → found_in s w links block ≡ None → val w UNUSED ≡ 0 → victim_from w (base s) reach s.cmax 1 ≡ Some p
       → let e : ℕ = p.entry in
       Stands t s (out_counted (val w (word_of (base s) e MODIFIED)) (replaced_for s w (val w (word_of (base s) e BLOCK)) e block written))
       (asked block written e (place t block l)) (totals_after written (place t block l) totals)
@@ -180,7 +178,7 @@ module _ (t : Settings) (s : Shape) (of : Of t s) (w : List ℕ) (l : List (Resi
       here (full_word z) (chosen_word reach p enough z q))
 
   -- every resident is pinned, where it finds none
-  pub pinned_word : (links : ℕ) → s.N ≤ links → val w UNUSED ≡ 0 → victim_from w (base s) links s.cmax 1 ≡ AllPinned → Refused t D g.order
+  pub pinned_word : (links : ℕ) → s.N ≤ links → val w UNUSED ≡ 0 → victim_from w (base s) links s.cmax 1 ≡ None → Refused t D g.order
   pinned_word links budget z q =
       subst (Searched t D g.order) q (found_victim s w D g.order g.unused g.directory t of links budget (full_word z))
 
@@ -213,7 +211,7 @@ module _ (t : Settings) (s : Shape) (of : Of t s) (w : List ℕ) (l : List (Resi
 
   -- ---- a purge
 
-  pub purge_word : (block links e : ℕ) → s.N ≤ links → found_in s w links block ≡ At e
+  pub purge_word : (block links e : ℕ) → s.N ≤ links → found_in s w links block ≡ Some e
       → Stands t s (purged w (base s) s.cmax (suc s.N) (24 + 2 * s.cmax + s.hash block) e) (removed block l) totals
   purge_word block links e budget here =
       carry (purged w (base s) s.cmax (suc s.N) (24 + 2 * s.cmax + s.hash block) e) (removed block) (λ m v. v)

@@ -13,34 +13,30 @@ ghost use Rattle.opt_ins.specs.Awaited.{RoomReady, StepReady, TraceReady};
 // The most words of a trace.
 pub const MOST_READS: usize = 4096;
 
-// What the words of the positions say.
+// What the words of the positions say. Numbers, not flags: a miss is counted by 1 less such a word.
 const AWAITED: u32 = 1;
 
 const NOT_AWAITED: u32 = 0;
 
-// The first read of a block from a position on; the trace's length where there is none.
+// The first read of a block from a position on. The trace's length is none, as the definitions have it: further than any read.
 fn next_read(trace: &[u32], block: u32, from: usize) -> usize
     requires { from ≤ length trace.now }
     ensures { result ≡ from + index_of block (drop from (trace_of trace.now)) }
 {
-    let mut j = from;
-    while j < trace.len() {
+    for j in from..trace.len() {
         if trace[j] % words::VALUES == block {
             return j;
         }
-        j += 1;
     }
-    j
+    trace.len()
 }
 
-// The last position below len that is awaited, or 0.
+// The last position below len that is awaited, or 0. The room is of a fixed size: the trace's length comes beside it.
 fn last_awaited(awaited: &[u32], len: usize) -> usize
     requires { len ≤ length awaited.now }
     ensures { result ≡ last_awaited awaited.now len }
 {
-    let mut j = len;
-    while j > 0 {
-        j -= 1;
+    for j in (0..len).rev() {
         if awaited[j] == AWAITED {
             return j;
         }
@@ -96,11 +92,9 @@ fn run(awaited: &mut [u32], trace: &[u32], n: u32) -> u32
 {
     let mut waiting = 0;
     let mut ins = 0;
-    let mut i = 0;
-    while i < trace.len() {
+    for i in 0..trace.len() {
         ins += 1 - awaited[i];
         waiting = step(awaited, trace, i, waiting, n);
-        i += 1;
     }
     ins
 }

@@ -2,6 +2,8 @@
 -- alone. Every promise gives the residents with their entries, read off along the stack links, by the recency stack's definitions;
 -- settings, totals and the words past the directory; that the words are sound again; and how many link words changed at most.
 -- Statements only.
+use Rattle.promises.specs.declared.Replaced.{Replaced}
+use Rattle.std.specs.Prelude.{Option as Optional, Some, None}
 use Rattle.std.specs.Prelude.{ℕ, ◌+◌, ◌≤◌, ◌<◌, ◌≡◌, Bool, not, List, map, length, drop, get_or, T, eqb}
 use Rattle.std.proofs.Math.Option.{Option, none, some}
 use Rattle.basics.specs.Basics.{when◌then◌else◌}
@@ -14,15 +16,11 @@ use Rattle.stack.specs.Stack.{Totals, Answer, replaced, miss_refused, halved, ac
 use Rattle.stack.specs.Entries.{entry_for, PickAt}
 use Rattle.layout.specs.Addresses.{TO-TAIL}
 use Rattle.layout.specs.Sound.{settings_in, totals_in, field, sound, resident_at, residents_in}
-use Rattle.layout.specs.declared.Found.{Found}
-use Rattle.layout.specs.declared.Found.TheVariants.{At, Absent}
-use Rattle.promises.specs.declared.Replacement.{Replacement}
-use Rattle.promises.specs.declared.Replacement.TheVariants.{By, AllPinned}
 
 -- What a lookup yields, as the resident that it found.
-abbrev pub found_resident : List ℕ → Found → Option (Resident ℕ)
-found_resident words Absent = none
-found_resident words (At entry) = some (resident_at words entry)
+abbrev pub found_resident : List ℕ → Optional ℕ → Option (Resident ℕ)
+found_resident words None = none
+found_resident words (Some entry) = some (resident_at words entry)
 
 -- What every operation keeps.
 pub record Kept (before after : List ℕ) : Type 0 where
@@ -60,9 +58,9 @@ pub record Accessed (links : ℕ) (before : List ℕ) (block : ℕ) (written : B
   pub links_few : T (not (halved answer)) → links_changed before after ≤ links
 
 -- A replacement, of a block that no resident has where no entry is unused: the victim gave way, or the block was refused.
-abbrev pub Replaces : List ℕ → ℕ → Bool → List ℕ → Replacement → Type 0
-Replaces before block written after (By r) = Accessed 20 before block written r.entry (replaced r.victim r.chains r.out) after
-Replaces before block written after AllPinned = Accessed 0 before block written 0 miss_refused after
+abbrev pub Replaces : List ℕ → ℕ → Bool → List ℕ → Optional Replaced → Type 0
+Replaces before block written after (Some r) = Accessed 20 before block written r.entry (replaced r.victim r.chains r.out) after
+Replaces before block written after None = Accessed 0 before block written 0 miss_refused after
 
 -- ---- a purge; the cache asks it of unpinned residents only
 

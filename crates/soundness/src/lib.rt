@@ -1,219 +1,166 @@
 #![tactic(auto)]
 
 ghost use Rattle.std.specs.Prelude.{◌≡◌, ◌+◌, ◌-◌, ◌*◌, ◌≤◌, ◌<◌, length};
+ghost use Rattle.settings.specs.Buckets.{buckets};
 ghost use Rattle.layout.specs.Sound.{sound};
-ghost use Rattle.check_model.specs.Masks.{Masks};
-ghost use Rattle.check_model.specs.Tests.{entry_word, head_of, sound_test};
+ghost use Rattle.check_model.specs.Tests.{entry_word, head_of};
 ghost use Rattle.check_model.specs.Walk.{entry_test, lists_walk, met, numbers_with, totals_with, walk_end, walk_test};
 
-use settings::Settings;
+use check_lists::{Buckets, COUNTS};
+use settings::Legal;
 
-// The numbers of the header beside the stack: the sum s of counts and the entries at the boundaries.
-fn numbers_ok(d: &[u32], n: u32, average: u32, s: u64, middle: u32, aged: u32) -> bool
-    requires { (n ≤ 4096) × (average ≤ 1000) }
-    ensures { result ≡ numbers_with d.now n average s middle aged }
-{
-    if words::value(d, layout::SUM) as u64 != s {
-        return false;
-    }
-    if s > (average as u64) * (n as u64) {
-        return false;
-    }
-    if words::value(d, layout::NEW_BOUNDARY) != middle {
-        return false;
-    }
-    if words::value(d, layout::OLD_BOUNDARY) != aged {
-        return false;
-    }
-    if words::value(d, layout::BLANK_14) != 0 {
-        return false;
-    }
-    if words::value(d, layout::BLANK_15) != 0 {
-        return false;
-    }
-    true
+// What a walk along the stack has met where it ends.
+#[derive(Clone, Copy)]
+struct Walk {
+    e: u32, // the entry behind the last one, or none
+    before: u32, // the last one
+    sum: u64, // of counts
+    marks: u64, // how many residents are modified
+    young: u32, // the entry at position Nnew
+    old: u32, // the one at N − Nold
 }
 
+// The numbers of the header beside the stack: the sum of counts and the entries at the boundaries.
+#[tactic(auto, using(settings::specs::NumbersLaws::legal_settings), unfolding(check_model::specs::Walk::numbers_with))]
+fn numbers_ok(d: &[u32], legal: Legal, at: Walk) -> bool
+    ensures { result ≡ numbers_with d.now legal.of.n legal.of.amax at.sum at.young at.old }
+{
+    u64::from(words::get(d, layout::SUM)) == at.sum
+        && at.sum <= u64::from(legal.of.amax) * u64::from(legal.of.n)
+        && words::get(d, layout::NEW_BOUNDARY) == at.young
+        && words::get(d, layout::OLD_BOUNDARY) == at.old
+        && words::get(d, layout::BLANK_14) == 0
+        && words::get(d, layout::BLANK_15) == 0
+}
+
+#[tactic(auto, using(check_model::specs::LoopLaws::total_small), unfolding(check_model::specs::Walk::totals_with, check_model::specs::Tests::total_of))]
 fn totals_ok(d: &[u32], marks: u64) -> bool
     requires { marks ≤ 17592186044416 }
     ensures { result ≡ totals_with d.now marks }
 {
-    if header::total_at(d, layout::INS) > header::total_at(d, layout::READS) {
-        return false;
-    }
-    if header::total_at(d, layout::OUTS) + marks > header::total_at(d, layout::WRITES) {
-        return false;
-    }
-    true
+    header::total_at(d, layout::INS) <= header::total_at(d, layout::READS)
+        && header::total_at(d, layout::OUTS) + marks <= header::total_at(d, layout::WRITES)
 }
 
-// The resident e at position p: linked, its numbers right, behind the last of its count.
+// The resident at position p: linked, its numbers right, behind the last of its count.
+#[tactic(auto, using(check_model::specs::LoopLaws::link_low), unfolding(check_model::specs::Walk::entry_test))]
 fn entry_ok(
     d: &[u32],
     entries: &[u32],
-    n: u32,
-    m: u32,
-    new: u32,
-    mid: u32,
-    cmax: u32,
+    legal: Legal,
     e: u32,
     before: u32,
     p: u32,
-    last: &[u32; 65],
+    last: &[u32; COUNTS],
 ) -> bool
-    requires { (cmax ≤ 64) × (9 * n + 8 < length entries.now) }
-    ensures { result ≡ entry_test (entry_word entries.now) (head_of d.now) n m new mid cmax e before p last.now }
+    requires { 9 * legal.of.n + 8 < length entries.now }
+    ensures { result ≡ entry_test (entry_word entries.now) (head_of d.now) legal.of.n legal.of.m legal.of.nnew
+        (legal.of.n - legal.of.nold) legal.of.cmax
+        e before p last.now }
 {
-    if !check_stack::link_test(entries, n, e, before) {
-        return false;
-    }
-    if !check_stack::field_test(entries, m, new, mid, e, p) {
-        return false;
-    }
-    check_lists::chain_test(d, entries, cmax, e, last)
+    check_stack::link_test(entries, legal.of.n, e, before)
+        && check_stack::field_test(entries, legal, e, p)
+        && check_lists::chain_test(d, entries, legal, e, last)
 }
 
 // What is left to test where the walk ends.
-fn end_ok(
-    d: &[u32],
-    entries: &[u32],
-    n: u32,
-    cmax: u32,
-    average: u32,
-    e: u32,
-    before: u32,
-    s: u64,
-    marks: u64,
-    last: &[u32; 65],
-    middle: u32,
-    aged: u32,
-) -> bool
-    requires { (n ≤ 4096) × (cmax ≤ 64) × (average ≤ 1000) × (marks ≤ 17592186044416) }
-    ensures { result ≡ walk_end d.now (entry_word entries.now) n cmax average e before s marks last.now middle aged }
+#[tactic(auto, unfolding(check_model::specs::Walk::walk_end))]
+fn end_ok(d: &[u32], entries: &[u32], legal: Legal, at: Walk, last: &[u32; COUNTS]) -> bool
+    requires { at.marks ≤ 17592186044416 }
+    ensures { result ≡ walk_end d.now (entry_word entries.now) legal.of.n legal.of.cmax legal.of.amax
+        at.e at.before at.sum at.marks last.now at.young at.old }
 {
-    if e != 0 {
-        return false;
-    }
-    if before != words::value(d, layout::TAIL) {
-        return false;
-    }
-    if !check_lists::ends_ok(d, entries, cmax, last) {
-        return false;
-    }
-    if !numbers_ok(d, n, average, s, middle, aged) {
-        return false;
-    }
-    totals_ok(d, marks)
+    at.e == 0
+        && at.before == words::get(d, layout::TAIL)
+        && check_lists::ends_ok(d, entries, legal, last)
+        && numbers_ok(d, legal, at)
+        && totals_ok(d, at.marks)
 }
 
 // Entry e where position p is q, else the one met before.
+#[tactic(auto, unfolding(check_model::specs::Walk::met))]
 fn met_at(p: u32, q: u32, e: u32, a: u32) -> u32
     ensures { result ≡ met p q e a }
 {
-    if p == q {
-        return e;
-    }
-    a
+    if p == q { e } else { a }
 }
 
 // One walk along the stack: links, numbers, chains, sums and boundaries.
-fn walk_ok(
-    d: &[u32],
-    entries: &[u32],
-    n: u32,
-    m: u32,
-    new: u32,
-    mid: u32,
-    cmax: u32,
-    amax: u32,
-    count: u32,
-    head: u32,
-) -> bool
-    requires { (n ≤ 4096) × (cmax ≤ 64) × (amax ≤ 1000) × (count ≤ 4096) × (9 * n + 8 < length entries.now) }
-    ensures { result ≡ walk_test d.now (entry_word entries.now) n m new mid cmax amax count head }
+fn walk_ok(d: &[u32], entries: &[u32], legal: Legal, count: u32, head: u32) -> bool
+    requires { (count ≤ 4096) × (9 * legal.of.n + 8 < length entries.now) }
+    ensures { result ≡ walk_test d.now (entry_word entries.now) legal.of.n legal.of.m legal.of.nnew
+        (legal.of.n - legal.of.nold) legal.of.cmax legal.of.amax
+        count head }
 {
-    let mut last = [0; 65];
+    let new = legal.of.nnew;
+    let mid = legal.of.n - legal.of.nold;
+    let mut last = [0; COUNTS];
+    // Six locals, and a `Walk` only of what they end with: with the struct in the loop the check takes up to a sixth longer.
     let mut e = head;
     let mut before = 0;
-    let mut p = 0;
-    let mut s: u64 = 0;
+    let mut sum: u64 = 0;
     let mut marks: u64 = 0;
     let mut young = 0;
     let mut old = 0;
-    while p < count {
-        if !entry_ok(d, entries, n, m, new, mid, cmax, e, before, p, &last) {
+    for p in 0..count {
+        if !entry_ok(d, entries, legal, e, before, p, &last) {
             return false;
         }
         let c = check_stack::field(entries, layout::COUNT, e);
-        s += c as u64;
+        sum += u64::from(c);
         let w = check_stack::field(entries, layout::MODIFIED, e);
-        marks += (w % 2) as u64;
+        marks += u64::from(w % 2);
         check_lists::note(&mut last, c, e);
         young = met_at(p, new, e, young);
         old = met_at(p, mid, e, old);
         before = e;
         e = check_stack::field(entries, layout::TO_TAIL, e);
-        p += 1;
     }
-    end_ok(
-        d, entries, n, cmax, amax, e, before, s, marks, &last, young, old,
-    )
+    let at = Walk {
+        e,
+        before,
+        sum,
+        marks,
+        young,
+        old,
+    };
+    end_ok(d, entries, legal, at, &last)
+}
+
+// Where the buckets stand under these settings.
+fn buckets_of(legal: Legal) -> Buckets
+    ensures { (result.start ≡ 24 + 2 * legal.of.cmax) × (result.many ≡ buckets legal.of.n) }
+{
+    Buckets {
+        start: check_stack::HEADER as u32 + 2 * legal.of.cmax,
+        many: settings::buckets(legal.of.n),
+    }
 }
 
 // The stack, the unused list and the rest, of legal settings.
-fn lists_ok(d: &[u32], n: u32, new: u32, old: u32, cmax: u32, average: u32, m: u32, nb: u32) -> bool
-    requires { (n ≤ 4096) × (old ≤ n) × (cmax ≤ 64) × (average ≤ 1000) × (0 < nb) × (nb ≤ 4096) × Masks (nb - 1) nb × (24 + 2 * cmax + nb + 9 * n ≤ length d.now) }
-    ensures { result ≡ lists_walk d.now n new old cmax average m nb }
+fn lists_ok(d: &[u32], legal: Legal, at: Buckets) -> bool
+    requires { (at.start ≡ 24 + 2 * legal.of.cmax) × (at.many ≤ 4096) × (at.start + at.many + 9 * legal.of.n ≤ length d.now) }
+    ensures { result ≡ lists_walk d.now legal.of.n legal.of.nnew legal.of.nold legal.of.cmax legal.of.amax legal.of.m at.many }
 {
-    let at = 15 + 2 * (cmax as usize) + nb as usize;
-    let entries = &d[at..];
-    let count = words::value(d, layout::RESIDENTS);
-    let head = words::value(d, layout::HEAD);
+    let n = legal.of.n;
+    let entries = &d[at.start as usize + at.many as usize - check_stack::ENTRY..];
+    let count = words::get(d, layout::RESIDENTS);
     if count > n {
         return false;
     }
-    if !walk_ok(d, entries, n, m, new, n - old, cmax, average, count, head) {
-        return false;
-    }
-    if !check_stack::unused_ok(entries, n, n - count, words::value(d, layout::UNUSED)) {
-        return false;
-    }
-    check_lists::buckets_ok(d, entries, 24 + 2 * cmax, n, nb, count)
-}
-
-fn passes(d: &[u32]) -> bool
-    ensures { result ≡ sound_test d.now }
-{
-    let n = words::value(d, layout::CACHE_BLOCKS);
-    let nnew = words::value(d, layout::NEW_BLOCKS);
-    let nold = words::value(d, layout::OLD_BLOCKS);
-    let cmax = words::value(d, layout::CHAIN_LIMIT);
-    let amax = words::value(d, layout::AVERAGE_LIMIT);
-    let b = words::value(d, layout::BLOCK_SIZE);
-    let m = words::value(d, layout::STORE_BLOCKS);
-    let s = Settings {
-        n: n,
-        nnew: nnew,
-        nold: nold,
-        cmax: cmax,
-        amax: amax,
-        b: b,
-        m: m,
-    };
-    if settings::number(s) != 0 {
-        return false;
-    }
-    let nb = settings::buckets(n);
-    let base = 24 + 2 * (cmax as usize) + nb as usize;
-    if !check_stack::kinds_ok(d, base, n as usize) {
-        return false;
-    }
-    lists_ok(d, n, nnew, nold, cmax, amax, m, nb)
+    walk_ok(d, entries, legal, count, words::get(d, layout::HEAD))
+        && check_stack::unused_ok(entries, n, n - count, words::get(d, layout::UNUSED))
+        && check_lists::buckets_ok(d, entries, n, at, count)
 }
 
 // Whether the words are a sound directory.
 pub fn sound(dir: &[u32]) -> bool
     ensures { result ≡ sound dir.now }
 {
-    passes(dir)
+    let Ok(legal) = header::settings_in(dir).check() else {
+        return false;
+    };
+    let at = buckets_of(legal);
+    let base = at.start as usize + at.many as usize;
+    check_stack::kinds_ok(dir, base, legal.of.n as usize) && lists_ok(dir, legal, at)
 }

@@ -1,71 +1,56 @@
 #![tactic(auto)]
 
-ghost use Rattle.std.specs.Prelude.{◌≡◌, ◌<◌};
-ghost use Rattle.word_ops.specs.Hit.{boundary_to, boundary_past, boundary_up, new_boundary_up, old_boundary_up, boundaries_up, to_front};
+ghost use Rattle.std.specs.Prelude.{◌≡◌};
+ghost use Rattle.word_ops.specs.Hit.{boundary_to, boundary_up, boundaries_up, to_front};
+
+use lists::Frame;
 
 // The section that begins at a boundary now begins with entry n, which crosses into it.
-pub fn boundary_to(dir: &mut [u32], at: u32, boundary: u32, n: u32)
-    ensures { dir.new ≡ boundary_to dir.old at boundary n }
+#[tactic(auto, unfolding(word_ops::specs::Hit::boundary_to, words::specs::Words::val))]
+pub fn boundary_to(dir: &mut [u32], f: Frame, boundary: usize, n: u32)
+    ensures { dir.new ≡ boundary_to dir.old f.«at» boundary n }
 {
-    let section = words::get(dir, lists::word_of(at, n, layout::SECTION));
-    words::set_number(dir, lists::word_of(at, n, layout::SECTION), section + 1);
-    words::set_link(dir, boundary as usize, n);
+    let section = words::get(dir, f.word_of(n, layout::SECTION));
+    words::set_number(dir, f.word_of(n, layout::SECTION), section + 1);
+    words::set_link(dir, boundary, n);
 }
 
-// The same, where entry e, from there or below, crosses out of the section.
-fn boundary_past(dir: &mut [u32], at: u32, e: u32, boundary: u32, n: u32)
-    ensures { dir.new ≡ boundary_past dir.old at e boundary n }
+// Entry e goes to the front from a boundary or below: the boundary moves one resident towards the head, or to e, and e crosses out of
+// its section.
+#[tactic(auto, unfolding(word_ops::specs::Hit::boundary_up, word_ops::specs::Hit::boundary_past))]
+fn boundary_up(dir: &mut [u32], f: Frame, e: u32, boundary: usize)
+    ensures { dir.new ≡ boundary_up dir.old f.«at» e boundary }
 {
-    let section = words::get(dir, lists::word_of(at, e, layout::SECTION));
+    let b = words::get(dir, boundary);
+    let above = words::get(dir, f.word_of(b, layout::TO_HEAD));
+    let section = words::get(dir, f.word_of(e, layout::SECTION));
     words::set_number(
         dir,
-        lists::word_of(at, e, layout::SECTION),
-        values::minus(section, 1),
+        f.word_of(e, layout::SECTION),
+        section.saturating_sub(1),
     );
-    boundary_to(dir, at, boundary, n);
+    boundary_to(dir, f, boundary, values::or_else(above, e));
 }
 
-// Entry e goes to the front from a boundary or below: the boundary moves one resident towards the head, or to e.
-fn boundary_up(dir: &mut [u32], at: u32, e: u32, boundary: u32)
-    ensures { dir.new ≡ boundary_up dir.old at e boundary }
-{
-    let b = words::get(dir, boundary as usize);
-    let above = words::get(dir, lists::word_of(at, b, layout::TO_HEAD));
-    let n = values::or_else(above, e);
-    boundary_past(dir, at, e, boundary, n);
-}
-
-// The resident at position Nnew, when entry e of a section goes to the front.
-fn new_boundary_up(dir: &mut [u32], at: u32, e: u32, section: u32)
-    ensures { dir.new ≡ new_boundary_up dir.old at e section }
-{
-    if section != values::NEW {
-        boundary_up(dir, at, e, layout::NEW_BOUNDARY);
-    }
-}
-
-// The resident at position N − Nold, when entry e of a section goes to the front.
-fn old_boundary_up(dir: &mut [u32], at: u32, e: u32, section: u32)
-    ensures { dir.new ≡ old_boundary_up dir.old at e section }
+// The residents at positions N − Nold and Nnew, when entry e of a section goes to the front, with the sections of those that cross.
+#[tactic(auto, unfolding(word_ops::specs::Hit::boundaries_up, word_ops::specs::Hit::old_boundary_up, word_ops::specs::Hit::new_boundary_up,))]
+fn boundaries_up(dir: &mut [u32], f: Frame, e: u32, section: u32)
+    ensures { dir.new ≡ boundaries_up dir.old f.«at» e section }
 {
     if section == values::OLD {
-        boundary_up(dir, at, e, layout::OLD_BOUNDARY);
+        boundary_up(dir, f, e, layout::OLD_BOUNDARY);
+    }
+    if section != values::NEW {
+        boundary_up(dir, f, e, layout::NEW_BOUNDARY);
     }
 }
 
-// Both, with the sections of the residents that cross.
-fn boundaries_up(dir: &mut [u32], at: u32, e: u32, section: u32)
-    ensures { dir.new ≡ boundaries_up dir.old at e section }
+// Entry e, of that section, goes to the front of the stack. Inlined for speed: a frame by value then costs nothing.
+#[inline(always)]
+#[tactic(auto, unfolding(word_ops::specs::Hit::to_front))]
+pub fn to_front(dir: &mut [u32], f: Frame, e: u32, section: u32)
+    ensures { dir.new ≡ to_front dir.old f.«at» e section }
 {
-    old_boundary_up(dir, at, e, section);
-    new_boundary_up(dir, at, e, section);
-}
-
-// Entry e, of that section, goes to the front of the stack.
-pub fn to_front(dir: &mut [u32], at: u32, e: u32, section: u32)
-    requires { at < 100000 }
-    ensures { dir.new ≡ to_front dir.old at e section }
-{
-    boundaries_up(dir, at, e, section);
-    lists::move_to_front(dir, layout::HEAD, layout::TAIL, at + layout::TO_HEAD, e);
+    boundaries_up(dir, f, e, section);
+    f.stack().move_to_front(dir, e);
 }

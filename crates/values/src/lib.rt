@@ -1,11 +1,12 @@
 #![tactic(auto)]
 
-ghost use Rattle.std.specs.Prelude.{◌≡◌, ◌-◌, ◌^◌, ◌<◌};
+ghost use Rattle.std.specs.Prelude.{◌≡◌, ◌^◌, ◌<◌};
 ghost use Rattle.word_ops.specs.Hit.{or_else, raised_count};
 ghost use Rattle.word_ops.specs.Halve.{half};
 ghost use Rattle.word_ops.specs.Mark.{is_marked, is_pinned, with_mark, without_write, with_seen, with_pin};
 
-// A resident's section: new, middle (1) or old.
+// A resident's section: new, middle (1) or old. Numbers, since the definitions speak of any word, sound or not, and sections are counted
+// up and down.
 pub const NEW: u32 = 0;
 
 pub const OLD: u32 = 2;
@@ -13,24 +14,11 @@ pub const OLD: u32 = 2;
 // The highest count.
 const COUNT_MOST: u32 = 65535;
 
-// e1, or e2 where e1 is none.
+// e1, or e2 where e1 is none: 0, as both come from link words.
 pub fn or_else(e1: u32, e2: u32) -> u32
     ensures { result ≡ or_else e1 e2 }
 {
-    if e1 == 0 {
-        return e2;
-    }
-    e1
-}
-
-// a − b, or 0 where b is more.
-pub fn minus(a: u32, b: u32) -> u32
-    ensures { result ≡ a - b }
-{
-    if a < b {
-        return 0;
-    }
-    a - b
+    if e1 == 0 { e2 } else { e1 }
 }
 
 // The count after a hit on a resident of a section: it rises in the middle and the old one, to 65,535 at most.
@@ -38,13 +26,11 @@ pub fn raised_count(section: u32, count: u32) -> u32
     requires { count < 2 ^ 28 }
     ensures { (result ≡ raised_count section count) × (result < 2 ^ 28) }
 {
-    if section == NEW {
-        return count;
+    if section != NEW && count < COUNT_MOST {
+        count + 1
+    } else {
+        count
     }
-    if count < COUNT_MOST {
-        return count + 1;
-    }
-    count
 }
 
 // Half of a count, rounded up.
@@ -96,8 +82,5 @@ pub fn with_seen(word: u32) -> u32
 pub fn with_pin(word: u32, on: bool) -> u32
     ensures { result ≡ with_pin on word }
 {
-    if on {
-        return word % layout::PINNED + layout::PINNED;
-    }
-    word % layout::PINNED
+    word % layout::PINNED + layout::PINNED * u32::from(on)
 }

@@ -1,4 +1,6 @@
 -- The search finds the victim, and looks at as many chains as defined, or every resident is pinned. Assumes nothing.
+use Rattle.word_ops.specs.declared.Picked.{Picked}
+use Rattle.std.specs.Prelude.{Option, Some, None}
 use Rattle.std.specs.Prelude.{ℕ, suc, ◌+◌, ◌-◌, ◌≤◌, ◌<◌, ◌≡◌, refl, Bool, not, List, ◌∷◌, ◌++◌, T, length, get_or, take, drop}
 use Rattle.std.proofs.Common.{◌∙◌, sym, ap, subst, arith, length-take-le, eq-eqb, ne_eqb}
 use Rattle.std.proofs.Math.Seq.{split_at}
@@ -11,8 +13,6 @@ use Rattle.stack.proofs.CountsLaws.{Outcome, all_pinned_lem, a_victim, outcome}
 use Rattle.stack.proofs.SearchLaws.{search, search_finds}
 use Rattle.layout.specs.Addresses.{COUNT, MODIFIED}
 use Rattle.layout.specs.ModifiedWord.{marks_in}
-use Rattle.word_ops.specs.declared.Victim.{Victim}
-use Rattle.word_ops.specs.declared.Victim.TheVariants.{At, AllPinned}
 use Rattle.word_ops.specs.Victim.{or_all_pinned, victim_from}
 use Rattle.victims.specs.Linked.{Linked, Worded}
 use Rattle.victims.specs.Lasts.{at_end, every_at}
@@ -24,11 +24,11 @@ AllAt xs = (p : ℕ) → p < length xs → T (not (unpinned_at xs p))
 
 -- ---- what is found
 
-none_is : (n e : ℕ) → e ≡ 0 → or_all_pinned n e ≡ AllPinned
+none_is : (n e : ℕ) → e ≡ 0 → or_all_pinned n e ≡ None
 unfolding or_all_pinned
 none_is n e h = rw (eq-eqb e 0 h)
 
-one_is : (n e : ℕ) → ¬ (e ≡ 0) → or_all_pinned n e ≡ At (record { chains = n; entry = e })
+one_is : (n e : ℕ) → ¬ (e ≡ 0) → or_all_pinned n e ≡ Some (record { chains = n; entry = e })
 unfolding or_all_pinned
 one_is n e h = rw (ne_eqb e 0 h)
 
@@ -49,9 +49,9 @@ pub record Refused (t : Settings) (xs : List (ℕ × Bool)) (D : ℕ → ℕ →
   pub pinned : AllPinnedIn D residents
   pub place : length residents ≡ victim t xs
 
-abbrev pub Answers : Settings → List (ℕ × Bool) → (ℕ → ℕ → ℕ) → List ℕ → Victim → Type 0
-Answers t xs D residents (At r) = Chosen t xs D residents r.chains r.entry
-Answers t xs D residents AllPinned = Refused t xs D residents
+abbrev pub Answers : Settings → List (ℕ × Bool) → (ℕ → ℕ → ℕ) → List ℕ → Option Picked → Type 0
+Answers t xs D residents (Some r) = Chosen t xs D residents r.chains r.entry
+Answers t xs D residents None = Refused t xs D residents
 
 module _ (t : Settings) (w : List ℕ) (at links N cmax : ℕ) (D : ℕ → ℕ → ℕ) (tail : ℕ) (tails : ℕ → ℕ) (residents : List ℕ)
     (g : Linked N t.nnew (t.n - t.nold) cmax D tail tails residents) (v : Worded N cmax D tail tails w at) (enough : N ≤ links) where

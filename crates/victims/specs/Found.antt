@@ -1,5 +1,6 @@
 -- What the search over the words finds: of a chain the entry at `last_of`, of the stack that at `least_recent`, in all that at `search`.
 -- Assumes nothing.
+use Rattle.std.specs.Prelude.{Some}
 use Prim.Native.Nat.{ℕ, zero, suc, ◌+◌, ◌-◌, ◌≤◌, ◌<◌}
 use Rattle.std.specs.Prelude.{◌≡◌, Bool, List, [], ◌∷◌, map, leb}
 use Rattle.std.proofs.Math.Path.{refl, ap, ap₂}
@@ -26,7 +27,6 @@ use Rattle.layout.specs.Addresses.{TAIL, COUNT, SECTION, MODIFIED, TO-HEAD, CHAI
 use Rattle.layout.specs.ModifiedWord.{marks_in}
 use Rattle.word_ops.specs.Lists.{word_of}
 use Rattle.word_ops.specs.Mark.{is_pinned}
-use Rattle.word_ops.specs.declared.Victim.TheVariants.{At}
 use Rattle.word_ops.specs.Victim.{reaches, is_pinned_entry, chain_last, stack_last, or_all_pinned, victim_from}
 use Rattle.victims.specs.Lasts.{last_chain, last_greatest, at_end, Rising, rising_chain, rising_at}
 use Rattle.victims.specs.OverPinned.{walk_last}
@@ -196,7 +196,7 @@ module _ (t : Settings) (w : List ℕ) (at links N cmax : ℕ) (D : ℕ → ℕ 
     where
       go : (b : Bool) → ltb (last_of t xs i) (length xs) ≡ b
           → victim_from w at links more (i + 1) ≡ or_all_pinned (i + 1 - 1 + looked has (i + 1) more) (get_or residents (search t xs (i + 1) more) 0)
-          → pick (not b) (victim_from w at links more (i + 1)) (At (record { chains = i; entry = get_or residents (last_of t xs i) 0 }))
+          → pick (not b) (victim_from w at links more (i + 1)) (Some (record { chains = i; entry = get_or residents (last_of t xs i) 0 }))
           ≡ or_all_pinned (i - 1 + pick b 1 (looked has (suc i) more + 1)) (get_or residents (pick b (last_of t xs i) (search t xs (suc i) more)) 0)
       go true e rest =
           let n : i - 1 + 1 ≡ i = omega arith in

@@ -1,12 +1,11 @@
 -- Buckets as stores and searches: an entry joins or leaves the list of its bucket, whose head is the word `bucket`; a lookup.
 -- Assumes nothing.
+use Rattle.std.specs.Prelude.{Option, Some, None}
 use Rattle.std.specs.Prelude.{ℕ, zero, suc, List, eqb}
 use Rattle.basics.specs.Basics.{pick}
 use Rattle.words.specs.Words.{val, set_link, set_number}
 use Rattle.layout.specs.Addresses.{BLOCK, NEXT-SYNONYM}
 use Rattle.word_ops.specs.Lists.{word_of, slot_of}
-use Rattle.layout.specs.declared.Found.{Found}
-use Rattle.layout.specs.declared.Found.TheVariants.{At, Absent}
 
 -- the block of e, which becomes the first of its bucket
 unfoldable pub bucket_joined : List ℕ → ℕ → ℕ → ℕ → ℕ → List ℕ
@@ -29,12 +28,12 @@ unfoldable pub bucket_left : List ℕ → ℕ → ℕ → ℕ → ℕ → List �
 bucket_left w at links bucket e = bucket_left_after w at bucket e (synonym_before w at e links (val w bucket) 0)
 
 -- what a search for a block from entry e on finds, within so many links
-unfoldable pub searched : List ℕ → ℕ → ℕ → ℕ → ℕ → Found
-searched w at block zero e = Absent
+unfoldable pub searched : List ℕ → ℕ → ℕ → ℕ → ℕ → Option ℕ
+searched w at block zero e = None
 searched w at block (suc links) e =
-    pick (eqb e 0) Absent
-    (pick (eqb (val w (word_of at e BLOCK)) block) (At e) (searched w at block links (val w (word_of at e NEXT-SYNONYM))))
+    pick (eqb e 0) None
+    (pick (eqb (val w (word_of at e BLOCK)) block) (Some e) (searched w at block links (val w (word_of at e NEXT-SYNONYM))))
 
 -- in a bucket
-unfoldable pub found : List ℕ → ℕ → ℕ → ℕ → ℕ → Found
+unfoldable pub found : List ℕ → ℕ → ℕ → ℕ → ℕ → Option ℕ
 found w at links bucket block = searched w at block links (val w bucket)

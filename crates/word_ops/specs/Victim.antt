@@ -1,13 +1,13 @@
 -- The search for a victim (source document 000, section 2.4, with pins): each chain from its tail towards the head past pinned
 -- residents up to the first that isn't old, then the stack so, whatever the section. Assumes nothing.
+use Rattle.word_ops.specs.declared.Picked.{Picked}
+use Rattle.std.specs.Prelude.{Option, Some, None}
 use Rattle.std.specs.Prelude.{ℕ, zero, suc, ◌+◌, ◌-◌, Bool, not, ◌&&◌, List, eqb, leb}
 use Rattle.basics.specs.Basics.{pick}
 use Rattle.words.specs.Words.{val}
 use Rattle.layout.specs.Addresses.{TAIL, SECTION, MODIFIED, TO-HEAD, CHAIN-TO-HEAD, chain_tail}
 use Rattle.word_ops.specs.Lists.{word_of}
 use Rattle.word_ops.specs.Mark.{is_pinned}
-use Rattle.word_ops.specs.declared.Victim.{Victim}
-use Rattle.word_ops.specs.declared.Victim.TheVariants.{At, AllPinned}
 
 -- whether e is a resident of that section or of a less recent one
 unfoldable pub reaches : List ℕ → ℕ → ℕ → ℕ → Bool
@@ -36,13 +36,13 @@ unfolding over_pinned
 stack_last w at links = over_pinned w at 0 TO-HEAD links (val w TAIL)
 
 -- e after a look at so many chains, or no victim where e is none
-unfoldable pub or_all_pinned : ℕ → ℕ → Victim
-or_all_pinned chains e = pick (eqb e 0) AllPinned (At (record { chains = chains; entry = e }))
+unfoldable pub or_all_pinned : ℕ → ℕ → Option Picked
+or_all_pinned chains e = pick (eqb e 0) None (Some (record { chains = chains; entry = e }))
 
 -- over `more` chains from that of count i on, else in the stack
-unfoldable pub victim_from : List ℕ → ℕ → ℕ → ℕ → ℕ → Victim
+unfoldable pub victim_from : List ℕ → ℕ → ℕ → ℕ → ℕ → Option Picked
 victim_from w at links zero i = or_all_pinned (i - 1) (stack_last w at links)
 victim_from w at links (suc more) i =
     let e = chain_last w at links i in
     let further = victim_from w at links more (i + 1) in
-    pick (eqb e 0) further (At (record { chains = i; entry = e }))
+    pick (eqb e 0) further (Some (record { chains = i; entry = e }))

@@ -15,6 +15,9 @@ const KEYWORDS: [&str; 16] = [
 const PRIMITIVES: [&str; 13] =
     ["bool", "char", "i16", "i32", "i64", "i8", "isize", "str", "u16", "u32", "u64", "u8", "usize"];
 
+/// Constructors that no source declares.
+const CONSTRUCTORS: [&str; 3] = ["Err", "Ok", "Some"];
+
 /// All of `crates/*/src`.
 pub fn texts() -> Texts {
     let text = |folder: PathBuf| {
@@ -129,6 +132,23 @@ fn path_length(tokens: &[String]) -> usize {
     length
 }
 
+/// How many tokens the parameters of types take that the tokens start with.
+fn generics(tokens: &[String]) -> usize {
+    let mut depth = 0;
+    let inside = |token: &&String| {
+        let before = depth;
+        depth += i32::from(*token == "<") - i32::from(*token == ">");
+        before + depth > 0
+    };
+    tokens.iter().take_while(inside).count()
+}
+
+/// The type that the head of an impl is of: behind `for`, if there is one.
+fn implementor(head: &[String]) -> &[String] {
+    let of = head.iter().position(|token| token == "for").map_or(generics(head), |at| at + 1);
+    &head[of..of + 1]
+}
+
 /// A function, or a constant, which may hold one.
 pub struct Item {
     /// Its crate, and the type in whose block it stands.
@@ -233,7 +253,8 @@ impl Sources {
                 "pub" | "extern" | "\"C\"" => 1,
                 "const" if next == "fn" => 1,
                 "#" => through(rest, "[", "]")?,
-                "ghost" if next == "use" => until(rest, ";")? + 1,
+                // an import of statements, or what an impl says of its trait's contracts
+                "ghost" => until(rest, ";")? + 1,
                 "use" => {
                     let end = until(rest, ";")?;
                     self.import(&scope[0], &[], &rest[1..end])?;
@@ -241,9 +262,9 @@ impl Sources {
                 }
                 "const" => self.constant(scope, rest)?,
                 "struct" | "enum" => self.declared(scope, rest)?,
-                "impl" if rest.get(2).is_some_and(|token| token == "{") => {
-                    let length = through(rest, "{", "}")?;
-                    self.read_items(&[scope, &rest[1..2]].concat(), &rest[3..length - 1])?;
+                "impl" => {
+                    let (open, length) = (until(rest, "{")?, through(rest, "{", "}")?);
+                    self.read_items(&[scope, implementor(&rest[1..open])].concat(), &rest[open + 1..length - 1])?;
                     length
                 }
                 "fn" => self.function(scope, rest)?,
@@ -305,7 +326,7 @@ impl Sources {
 
     /// Signature, contracts, which are no code, and body.
     fn function(&mut self, scope: &[String], rest: &[String]) -> Result<usize, String> {
-        let open = rest.iter().position(|token| token == "(").ok_or("fn without parameters")?;
+        let open = 2 + generics(&rest[2..]);
         let mut at = open + through(&rest[open..], "(", ")")?;
         let named = |part: &&[String]| part.iter().position(|token| token == ":").map(|colon| part[colon - 1].clone());
         let parameters = split(&rest[open + 1..at - 1]).iter().filter_map(named).collect();
@@ -340,6 +361,7 @@ impl Sources {
             "Self" => self.follow([&item.scope, &path[1..]].concat()),
             "crate" | "self" | "super" => self.follow([own, &path[1..]].concat()),
             first if path.len() > 1 && PRIMITIVES.contains(&first) => Some(Named::Other),
+            first if path.len() == 1 && CONSTRUCTORS.contains(&first) => Some(Named::Other),
             _ => self.follow([own, &path].concat()).or_else(|| self.follow(path)),
         }
     }

@@ -12,9 +12,6 @@ pub bounds-work-i : goal.bounds-work-i
 bounds-work-i c = let d = c.loop-i.invariant in let a = decoding_length _ _ _ _ _ d in let b = d.short in let l = d.long in let h =
     c.loop-i-test.true in omega arith
 
-pub loop-i-smaller : goal.loop-i-smaller
-loop-i-smaller c = let h = c.loop-i-test.true in omega arith
-
 pub loop-i-preserved : goal.loop-i-preserved
 loop-i-preserved c = decoding_step _ _ _ _ _ c.loop-i.invariant _ c.loop-i-test.true c.word_at.ensures
 

@@ -1,6 +1,6 @@
 use mathlib.Core.Path.{refl}
 use native.Mathlib.Omega.{arith}
-use Rattle.belt.proofs.Laws.{marking_length, marking_step, marking_end}
+use Rattle.belt.proofs.Laws.{marking_step, marking_end}
 use Rattle.belt.proofs.fill_incoming.Goals as goal
 
 pub loop-i-init : goal.loop-i-init
@@ -9,11 +9,8 @@ loop-i-init c = record { inside = omega arith; long = c.requires; written = refl
 pub bounds-incoming-i : goal.bounds-incoming-i
 bounds-incoming-i c = let h = c.loop-i-test.true in omega arith
 
-pub loop-i-smaller : goal.loop-i-smaller
-loop-i-smaller c = let h = c.loop-i-test.true in let l = marking_length _ _ _ c.loop-i.invariant in omega arith
-
 pub loop-i-preserved : goal.loop-i-preserved
-loop-i-preserved c = marking_step _ _ _ c.loop-i.invariant _ c.loop-i-test.true c.mark.ensures
+loop-i-preserved c = marking_step _ _ _ c.loop-i.invariant _ (omega arith) c.mark.ensures
 
 pub returns : goal.returns
-returns c = marking_end _ _ _ c.loop-i.invariant c.loop-i-test.false
+returns c = marking_end _ _ _ c.loop-i.invariant (omega arith)

@@ -1,6 +1,6 @@
-use mathlib.Core.Path.{sym, ◌∙◌}
+use native.Mathlib.Omega.{arith}
 use Rattle.belt.specs.BeltLaws.{word_at}
 use Rattle.belt.proofs.word_at.Goals as goal
 
 pub returns : goal.returns
-returns c = c.join.ensures ∙ sym (word_at _ _ c.requires)
+returns c = let e = word_at c.args.bytes.now c.args.i c.requires in omega arith

@@ -1,4 +1,3 @@
-use native.Mathlib.Nat.{sub-zero}
 use borrow.Author.Tests.{not-true, not-false}
 use mathlib.Core.Path.{refl, sym, ◌∙◌}
 use mathlib.Core.Bool.{true}
@@ -11,7 +10,7 @@ use Rattle.check_stack.proofs.head_kinds.Goals as goal
 
 pub loop-i-init : goal.loop-i-init
 unfolding kinds_ok
-loop-i-init c = rw sub-zero
+loop-i-init c = refl
 
 pub returns-then-not-kind_test : goal.returns-then-not-kind_test
 returns-then-not-kind_test c = let l = c.loop-i in sym (turns_fail _ _ _ _ l.i (omega arith)

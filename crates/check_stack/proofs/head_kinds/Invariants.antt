@@ -5,6 +5,3 @@ use Rattle.check_stack.proofs.head_kinds.Given as goal
 
 abbrev pub invariant-loop-i : goal.invariant-loop-i
 invariant-loop-i l = kinds_from l.d l.base (24 - l.i) l.i ≡ kinds_ok l.d l.base 24
-
-abbrev pub decreases-loop-i : goal.decreases-loop-i
-decreases-loop-i l = 24 - l.i

@@ -1,4 +1,4 @@
-use mathlib.Core.Path.{sym}
+use Rattle.std.proofs.Common.{sym, le-ltb}
 use Rattle.check_model.specs.Tests.{kind_test}
 use Rattle.check_model.specs.LoopLaws.{kind_out}
 use Rattle.check_stack.proofs.kind_test.Goals as goal
@@ -7,5 +7,5 @@ pub returns-then-i-d : goal.returns-then-i-d
 unfolding kind_test
 returns-then-i-d c = rw (← c.kind_at.ensures)
 
-pub returns : goal.returns
-returns c = sym (kind_out _ _ _ c.if-i-d.false)
+pub returns-else-i-d : goal.returns-else-i-d
+returns-else-i-d c = rw (le-ltb _ _ c.if-i-d.false) (sym (kind_out _ c.args.base _ c.if-i-d.false))

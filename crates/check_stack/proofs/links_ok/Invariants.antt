@@ -5,6 +5,3 @@ use Rattle.check_stack.proofs.links_ok.Given as goal
 
 abbrev pub invariant-loop-i : goal.invariant-loop-i
 invariant-loop-i l = links_from l.d (l.base - l.i) l.i ≡ links_ok l.d l.base
-
-abbrev pub decreases-loop-i : goal.decreases-loop-i
-decreases-loop-i l = l.base - l.i

@@ -1,28 +1,28 @@
 use borrow.Author.Tests.{not-true, not-false}
-use mathlib.Core.Path.{refl, sym, ◌∙◌}
+use native.Mathlib.Nat.{sub-zero}
 use native.Mathlib.Omega.{arith}
-use Rattle.check_model.specs.Tests.{unused_ok}
-use Rattle.check_model.specs.LoopLaws.{turns_fail, turns_go, turns_end, unused_low}
+use mathlib.Core.Path.{refl, sym, ◌∙◌, ap}
 use mathlib.Core.Bool.{not}
-use Rattle.std.proofs.Common.{ap}
+use Rattle.check_model.specs.Tests.{unused_ok}
+use Rattle.check_model.specs.LoopLaws.{turns_fail, turns_up, turns_end, unused_low}
 use Rattle.check_stack.proofs.unused_ok.Goals as goal
 
-pub loop-left-init : goal.loop-left-init
+pub loop-init : goal.loop-init
 unfolding unused_ok
-loop-left-init c = refl
+loop-init c = rw sub-zero
 
 pub returns-then-not-unused_test : goal.returns-then-not-unused_test
-returns-then-not-unused_test c = let l = c.loop-left in sym (turns_fail _ _ _ l.left l.e c.loop-left-test.true
+returns-then-not-unused_test c = let l = c.loop in sym (turns_fail _ _ _ _ l.e (omega arith)
     (sym c.unused_test.ensures ∙ not-true _ (ap not c.if-not-unused_test.true))) ∙ l.invariant
 
 pub field-e-requires : goal.field-e-requires
-field-e-requires c = let l = c.loop-left in let low = unused_low _ _ l.e
+field-e-requires c = let low = unused_low _ _ c.loop.e
     (sym c.unused_test.ensures ∙ not-false _ (ap not c.if-not-unused_test.false)) in omega (arith, low)
 
-pub loop-left-preserved : goal.loop-left-preserved
-loop-left-preserved c = let l = c.loop-left in rw c.field-e.ensures
-    (sym (turns_go _ _ _ l.left l.e c.loop-left-test.true
+pub loop-preserved : goal.loop-preserved
+loop-preserved c = let l = c.loop in rw c.field-e.ensures
+    (sym (turns_up _ _ _ _ l.counter l.e c.loop-test.true
     (sym c.unused_test.ensures ∙ not-false _ (ap not c.if-not-unused_test.false))) ∙ l.invariant)
 
 pub returns : goal.returns
-returns c = let l = c.loop-left in sym (turns_end _ _ _ l.left l.e _ (omega arith) refl) ∙ l.invariant
+returns c = let l = c.loop in sym (turns_end _ _ _ _ l.e _ (omega arith) refl) ∙ l.invariant

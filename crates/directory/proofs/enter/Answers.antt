@@ -1,32 +1,11 @@
-use Rattle.directory.proofs.Laws.{settings_legal, framed, enter_returns}
-use Rattle.settings.specs.NumbersLaws.{legal_settings}
-use borrow.Author.Rules.{rules}
-use mathlib.Core.Path.{ap}
-use Rattle.settings.specs.declared.Settings.{Settings}
+use Rattle.directory.proofs.Laws.{within_limits, framed, enter_returns}
 use Rattle.directory.proofs.enter.Goals as goal
 
-pub frame_of-f-requires : goal.frame_of-f-requires
-frame_of-f-requires c = let asks = c.requires in
-    settings_legal _ _ asks.0.miss.is_sound asks.1
-
-pub unused_place-to-requires : goal.unused_place-to-requires
-unused_place-to-requires c = let asks = c.requires in
-    let fr = framed _ _ _ asks.0.miss.is_sound asks.1 c.frame_of-f.ensures in
-    search rules
-
-pub enter_entry-requires : goal.enter_entry-requires
-enter_entry-requires c = let asks = c.requires in
-    let fr = framed _ _ _ asks.0.miss.is_sound asks.1 c.frame_of-f.ensures in
-    search rules
-
-pub settle-halved-requires : goal.settle-halved-requires
-settle-halved-requires c = let asks = c.requires in
-    let fr = framed _ _ _ asks.0.miss.is_sound asks.1 c.frame_of-f.ensures in
-    let l = legal_settings _ (settings_legal _ _ asks.0.miss.is_sound asks.1) in
-    (fr.at_few, fr.cmax_few, l.few_average)
+pub frame-f-requires : goal.frame-f-requires
+frame-f-requires c = within_limits _ _ c.requires.0.miss.is_sound c.requires.1
 
 pub returns : goal.returns
-returns c = let asks = c.requires in
-    let fr = framed _ _ _ asks.0.miss.is_sound asks.1 c.frame_of-f.ensures in
-    enter_returns _ _ _ _ _ _ _ _ _ asks.0 fr c.unused_place-to.ensures c.enter_entry.ensures
-    (ap (λ (t : Settings). t.amax) asks.1) c.settle-halved.ensures.0 c.settle-halved.ensures.1
+returns c = let fr = framed _ _ _ c.requires.1 c.frame-f.ensures in
+    let stored = rw c.miss_count.ensures at c.enter.ensures in
+    enter_returns _ _ _ _ _ _ _ _ _ _ _ c.requires.0 c.requires.1 fr c.get-entry.ensures c.saturating_sub-old.ensures c.incoming.ensures
+    stored c.settle-halved.ensures.0 c.settle-halved.ensures.1

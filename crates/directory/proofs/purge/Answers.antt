@@ -1,22 +1,12 @@
-use Rattle.directory.proofs.Laws.{settings_legal, framed, purge_returns}
-use borrow.Author.Rules.{rules}
+use mathlib.Core.Path.{◌∙◌, ap}
+use Rattle.words.specs.Words.{val}
+use Rattle.directory.proofs.Laws.{within_limits, framed, purge_returns}
 use Rattle.directory.proofs.purge.Goals as goal
 
-pub frame_of-f-requires : goal.frame_of-f-requires
-frame_of-f-requires c = let asks = c.requires in
-    settings_legal _ _ asks.0.is_sound asks.1
-
-pub leaving_place-from-requires : goal.leaving_place-from-requires
-leaving_place-from-requires c = let asks = c.requires in
-    let fr = framed _ _ _ asks.0.is_sound asks.1 c.frame_of-f.ensures in
-    search rules
-
-pub purge-requires : goal.purge-requires
-purge-requires c = let asks = c.requires in
-    let fr = framed _ _ _ asks.0.is_sound asks.1 c.frame_of-f.ensures in
-    search rules
+pub frame-f-requires : goal.frame-f-requires
+frame-f-requires c = within_limits _ _ c.requires.0.is_sound c.requires.1
 
 pub returns : goal.returns
-returns c = let asks = c.requires in
-    let fr = framed _ _ _ asks.0.is_sound asks.1 c.frame_of-f.ensures in
-    purge_returns _ _ _ _ _ _ asks.0 fr c.leaving_place-from.ensures c.purge.ensures c.is_marked.ensures
+returns c = let fr = framed _ _ _ c.requires.1 c.frame-f.ensures in
+    purge_returns _ _ _ _ _ _ _ _ c.requires.0 fr (c.get-block.ensures ∙ ap (val _) c.word_of.ensures)
+    (c.get.ensures ∙ ap (val _) c.word_of-2.ensures) c.bucket_among-from.ensures c.purge.ensures c.is_marked-modified.ensures

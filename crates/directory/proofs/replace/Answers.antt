@@ -1,27 +1,13 @@
-use Rattle.directory.proofs.Laws.{settings_legal, framed, found_at, refused_returns}
-use borrow.Author.Rules.{rules}
+use Rattle.directory.proofs.Laws.{within_limits, framed, found_at, refused_returns}
 use Rattle.directory.proofs.replace.Goals as goal
 
-pub frame_of-f-requires : goal.frame_of-f-requires
-frame_of-f-requires c = let asks = c.requires in
-    settings_legal _ _ asks.0.miss.is_sound asks.1
-
-pub victim-requires : goal.victim-requires
-victim-requires c = let asks = c.requires in
-    let fr = framed _ _ _ asks.0.miss.is_sound asks.1 c.frame_of-f.ensures in
-    search rules
+pub frame-f-requires : goal.frame-f-requires
+frame-f-requires c = within_limits _ _ c.requires.0.miss.is_sound c.requires.1
 
 pub returns-in_default : goal.returns-in_default
-returns-in_default c = let asks = c.requires in
-    let fr = framed _ _ _ asks.0.miss.is_sound asks.1 c.frame_of-f.ensures in
-    refused_returns _ _ _ _ _ _ asks.0 fr c.victim.ensures c.in_default.is
-    c.access_count.ensures
+returns-in_default c = let fr = framed _ _ _ c.requires.1 c.frame-f.ensures in
+    refused_returns _ _ _ _ _ _ c.requires.0 fr (rw c.entries.ensures at c.victim.ensures) c.in_default.is c.access_count.ensures
 
-pub replace_picked-r-requires : goal.replace_picked-r-requires
-replace_picked-r-requires c = let asks = c.requires in
-    let fr = framed _ _ _ asks.0.miss.is_sound asks.1 c.frame_of-f.ensures in
-    record {
-      ready = asks.0;
-      framed = fr;
-      picked = found_at _ _ _ _ fr c.victim.ensures c.in-At.is;
-    }
+pub replace_picked-requires : goal.replace_picked-requires
+replace_picked-requires c = let fr = framed _ _ _ c.requires.1 c.frame-f.ensures in
+    record { ready = c.requires.0; framed = fr; picked = found_at _ _ _ _ fr (rw c.entries.ensures at c.victim.ensures) c.in-Some.is }

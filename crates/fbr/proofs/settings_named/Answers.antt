@@ -1,15 +1,15 @@
-use borrow.Author.Tests.{eq-eqb, ne_eqb}
+use native.Mathlib.Omega.{arith}
 use Rattle.fbr.specs.Named.{settings_named}
 use Rattle.fbr.proofs.settings_named.Goals as goal
 
-pub returns-then-which-eq0 : goal.returns-then-which-eq0
+pub returns-in-0 : goal.returns-in-0
 unfolding settings_named
-returns-then-which-eq0 c = rw (eq-eqb _ 0 c.if-which-eq0.true) c.unix.ensures
+returns-in-0 c = (omega arith, rw c.in-0.is c.unix.ensures)
 
-pub returns-then-which-eq1 : goal.returns-then-which-eq1
+pub returns-in-1 : goal.returns-in-1
 unfolding settings_named
-returns-then-which-eq1 c = rw (ne_eqb _ 0 c.if-which-eq0.false, eq-eqb _ 1 c.if-which-eq1.true) c.c51.ensures
+returns-in-1 c = (omega arith, rw c.in-1.is c.c51.ensures)
 
-pub returns : goal.returns
+pub returns-in-2 : goal.returns-in-2
 unfolding settings_named
-returns c = rw (ne_eqb _ 0 c.if-which-eq0.false, ne_eqb _ 1 c.if-which-eq1.false) c.cust11.ensures
+returns-in-2 c = (omega arith, rw c.in-2.is c.cust11.ensures)

@@ -1,35 +1,31 @@
-use mathlib.Core.Path.{refl, ◌∙◌}
-use native.Mathlib.Omega.{arith}
+use Rattle.std.proofs.Common.{arith}
 use Rattle.cache_steps.specs.FlushStep.{flush_start, flush_carried}
-use Rattle.flushing.proofs.Laws.{standing, entry_ready, behind_is, residents_few}
+use Rattle.flushing.proofs.Laws.{as_bit, bit_few, standing, entry_ready, behind_is, residents_few}
 use Rattle.flushing.proofs.flush.Goals as goal
 
-pub loop-p-init : goal.loop-p-init
-loop-p-init c = (flush_start _ _ c.requires.0, c.first-e.ensures, omega arith, omega arith, refl, refl)
+pub loop-init : goal.loop-init
+loop-init c = record { so_far = flush_start _ _ c.requires.0; entry = c.first-e.ensures; few = omega arith }
 
 pub next-behind-requires : goal.next-behind-requires
-next-behind-requires c = c.loop-p.invariant.0.kept.sound_after
+next-behind-requires c = c.loop.invariant.so_far.kept.sound_after
 
-pub flush_entry-written-requires : goal.flush_entry-written-requires
-flush_entry-written-requires c = entry_ready _ _ c.requires.0 _ _ _ c.loop-p.invariant.0 _ c.residents-count.ensures
-    c.loop-p-test.true _ c.loop-p.invariant.1 _ c.requires.1
+pub flush_entry-requires : goal.flush_entry-requires
+flush_entry-requires c = entry_ready _ _ c.requires.0 _ _ _ c.loop.invariant.so_far _ c.residents-end.ensures
+    c.loop-test.true _ c.loop.invariant.entry _ c.requires.1
 
 pub overflow_add-written : goal.overflow_add-written
-overflow_add-written c = omega (arith, c.flush_entry-written.ensures.1, c.loop-p-test.true, c.loop-p.invariant.3)
+overflow_add-written c = let h = bit_few c.flush_entry.result c.from-written.ensures in omega arith
 
-pub loop-p-preserved : goal.loop-p-preserved
-loop-p-preserved c = (
-  c.flush_entry-written.ensures.0 _ _ _ c.requires.0 c.loop-p.invariant.0 (standing _ _ c.requires.0 _ _ _ c.loop-p.invariant.0 _ c.residents-count.ensures c.loop-p-test.true _ c.loop-p.invariant.1),
-  behind_is _ _ c.requires.0 _ _ _ c.loop-p.invariant.0 _ c.residents-count.ensures c.loop-p-test.true _ c.loop-p.invariant.1 _
-      c.next-behind.ensures,
-  omega (arith, c.loop-p-test.true),
-  omega (arith, c.flush_entry-written.ensures.1, c.loop-p.invariant.3),
-  c.flush_entry-written.auto.dir ∙ c.loop-p.invariant.4,
-  c.flush_entry-written.auto.store ∙ c.loop-p.invariant.5,
-)
+pub loop-preserved : goal.loop-preserved
+loop-preserved c = let i = c.loop.invariant in let h = bit_few c.flush_entry.result c.from-written.ensures in record {
+  so_far = rw (c.from-written.ensures, as_bit) (c.flush_entry.ensures _ _ _ c.requires.0 i.so_far
+      (standing _ _ c.requires.0 _ _ _ i.so_far _ c.residents-end.ensures c.loop-test.true _ i.entry));
+  entry = behind_is _ _ c.requires.0 _ _ _ i.so_far _ c.residents-end.ensures c.loop-test.true _ i.entry _ c.next-behind.ensures;
+  few = omega arith;
+}
 
 pub returns : goal.returns
-returns c = (
-  flush_carried _ _ c.requires.0 c.loop-p.invariant.0 (omega (arith, c.residents-count.ensures, c.loop-p-test.false)),
-  omega (arith, c.residents-count.ensures, c.loop-p.invariant.2, c.loop-p.invariant.3, residents_few _ c.requires.0),
+returns c = let i = c.loop.invariant in (
+  flush_carried _ _ c.requires.0 i.so_far (omega (arith, c.residents-end.ensures, c.loop-test.false)),
+  omega (arith, c.residents-end.ensures, i.few, residents_few _ c.requires.0),
 )

@@ -1,21 +1,23 @@
+use Prim.Native.Nat.{◌+◌, ◌-◌}
+use native.Mathlib.Nat.{sub-zero}
 use native.Mathlib.Omega.{arith}
-use mathlib.Core.Path.{refl, sym, ◌∙◌}
+use mathlib.Core.Path.{◌≡◌, sym, ap, ◌∙◌}
+use Rattle.load.specs.Load.{state_after}
 use Rattle.load.proofs.LoadLaws.{state_declined, state_given}
 use Rattle.load.proofs.Laws.{one_less, none_left}
 use Rattle.load.proofs.load_state.Goals as goal
 
-pub returns-then-count-gt-MOST_WORDS : goal.returns-then-count-gt-MOST_WORDS
-returns-then-count-gt-MOST_WORDS c = sym (state_declined _ _ c.if-count-gt-MOST_WORDS.true)
+pub returns-then-count-gt-MOST_WORDS-clause-state : goal.returns-then-count-gt-MOST_WORDS-clause-state
+returns-then-count-gt-MOST_WORDS-clause-state c = sym (state_declined _ _ c.if-count-gt-MOST_WORDS.true)
 
-pub loop-more-init : goal.loop-more-init
-loop-more-init c = refl
+pub loop-init : goal.loop-init
+loop-init c = ap (state_after c.args.seed) (sym (sub-zero c.args.count))
 
-pub loop-more-smaller : goal.loop-more-smaller
-loop-more-smaller c = omega arith
+pub loop-preserved : goal.loop-preserved
+loop-preserved c =
+    let next = one_less c.loop.state (c.args.count - c.loop.counter) _ (omega arith) c.step-state.ensures in
+    let less : c.args.count - c.loop.counter - 1 ≡ c.args.count - (c.loop.counter + 1) = omega arith in
+    c.loop.invariant ∙ next ∙ ap (state_after c.step-state.result) less
 
-pub loop-more-preserved : goal.loop-more-preserved
-loop-more-preserved c = let h = c.loop-more-test.true in
-    c.loop-more.invariant ∙ one_less _ c.loop-more.more _ (omega arith) c.step-state.ensures
-
-pub returns : goal.returns
-returns c = sym (state_given _ _ c.if-count-gt-MOST_WORDS.false ∙ c.loop-more.invariant ∙ none_left _ _ c.loop-more-test.false)
+pub returns-clause-state : goal.returns-clause-state
+returns-clause-state c = sym (state_given _ _ c.if-count-gt-MOST_WORDS.false ∙ c.loop.invariant ∙ none_left _ _ (omega arith))

@@ -10,9 +10,9 @@ overflow_add-result c = let l = few_stored c.args.m c.requires in
 pub returns-then-x-eq0 : goal.returns-then-x-eq0
 returns-then-x-eq0 c = write_word _ _ c.if-x-eq0.true
 
-pub overflow_add-result-2 : goal.overflow_add-result-2
-overflow_add-result-2 c = let l = few_stored c.args.m c.requires in
+pub overflow_add-result-else-x-eq0 : goal.overflow_add-result-else-x-eq0
+overflow_add-result-else-x-eq0 c = let l = few_stored c.args.m c.requires in
     omega (arith, block_below c.args.m c.args.x l.0, l.1)
 
-pub returns : goal.returns
-returns c = read_word _ _ c.if-x-eq0.false
+pub returns-else-x-eq0 : goal.returns-else-x-eq0
+returns-else-x-eq0 c = read_word _ _ c.if-x-eq0.false

@@ -6,6 +6,3 @@ use Rattle.opt_ins.proofs.last_awaited.Given as goal
 
 abbrev pub invariant-loop-j : goal.invariant-loop-j
 invariant-loop-j l = (last_awaited l.awaited l.j ≡ last_awaited l.awaited l.len) × (l.j ≤ l.len) × (l.len ≤ length l.awaited)
-
-abbrev pub decreases-loop-j : goal.decreases-loop-j
-decreases-loop-j l = l.j

@@ -21,9 +21,6 @@ overflow_add-ins c = let g = c.loop-i.invariant in let h = c.loop-i-test.true in
 pub step-waiting-requires : goal.step-waiting-requires
 step-waiting-requires c = step_ready _ _ _ _ _ _ c.loop-i.invariant c.loop-i-test.true
 
-pub loop-i-smaller : goal.loop-i-smaller
-loop-i-smaller c = let h = c.loop-i-test.true in omega arith
-
 pub loop-i-preserved : goal.loop-i-preserved
 loop-i-preserved c = going_step _ _ _ _ _ _ c.loop-i.invariant
     c.loop-i-test.true _ _ c.step-waiting.ensures

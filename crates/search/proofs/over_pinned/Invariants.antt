@@ -1,9 +1,7 @@
-use mathlib.Core.Path.{◌≡◌}
+use Rattle.std.proofs.Common.{◌≡◌, ◌-◌}
 use Rattle.word_ops.specs.Victim.{over_pinned}
 use Rattle.search.proofs.over_pinned.Given as goal
 
-abbrev pub invariant-loop-left : goal.invariant-loop-left
-invariant-loop-left l = over_pinned l.dir l.at l.section l.word l.left l.e ≡ over_pinned l.dir l.at l.section l.word l.links l.first
-
-abbrev pub decreases-loop-left : goal.decreases-loop-left
-decreases-loop-left l = l.left
+abbrev pub invariant-loop : goal.invariant-loop
+invariant-loop l =
+    over_pinned l.dir l.f.«at» l.section l.word (l.f.links - l.counter) l.e ≡ over_pinned l.dir l.f.«at» l.section l.word l.f.links l.first

@@ -1,9 +1,7 @@
-use mathlib.Core.Path.{◌≡◌}
+use Rattle.std.proofs.Common.{◌≡◌, ◌-◌}
 use Rattle.word_ops.specs.Buckets.{synonym_before}
 use Rattle.search.proofs.synonym_before.Given as goal
 
-abbrev pub invariant-loop-left : goal.invariant-loop-left
-invariant-loop-left l = synonym_before l.dir l.at l.e l.left l.x l.q ≡ synonym_before l.dir l.at l.e l.links l.first 0
-
-abbrev pub decreases-loop-left : goal.decreases-loop-left
-decreases-loop-left l = l.left
+abbrev pub invariant-loop : goal.invariant-loop
+invariant-loop l =
+    synonym_before l.dir l.f.«at» l.e (l.f.links - l.counter) l.x l.q ≡ synonym_before l.dir l.f.«at» l.e l.f.links l.first 0

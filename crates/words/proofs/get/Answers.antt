@@ -4,9 +4,9 @@ use Rattle.words.specs.Words.{val}
 use Rattle.words.specs.WordLaws.{val_out}
 use Rattle.words.proofs.get.Goals as goal
 
-pub returns-then-i-d : goal.returns-then-i-d
+pub returns-in-Some : goal.returns-in-Some
 unfolding val
-returns-then-i-d c = search rules
+returns-in-Some c = search rules
 
-pub returns-else-i-d : goal.returns-else-i-d
-returns-else-i-d c = sym (val_out _ _ c.if-i-d.false)
+pub returns-in-None : goal.returns-in-None
+returns-in-None c = sym (val_out _ _ (search rules))

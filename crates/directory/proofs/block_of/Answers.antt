@@ -1,9 +1,0 @@
-use Rattle.layout.specs.Addresses.{BLOCK}
-use Rattle.layout.specs.Sound.{resident_at}
-use Rattle.directory.proofs.Laws.{read_field}
-use Rattle.directory.proofs.block_of.Goals as goal
-
-pub returns : goal.returns
-unfolding resident_at
-returns c = let w = c.args.dir.now in
-    read_field w BLOCK _ _ _ _ c.entries_at.ensures c.word_of.ensures c.get.ensures

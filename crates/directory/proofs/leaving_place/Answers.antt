@@ -1,9 +1,0 @@
-use Rattle.directory.proofs.Laws.{leaving_of, bucket_framed}
-use Rattle.words.specs.Words.{val}
-use mathlib.Core.Path.{◌∙◌, ap}
-use Rattle.directory.proofs.leaving_place.Goals as goal
-
-pub returns : goal.returns
-returns c = let fr = c.requires in
-    leaving_of _ _ _ _ _ _ fr.at_is (c.get-block.ensures ∙ ap (val _) c.word_of.ensures)
-    (c.get.ensures ∙ ap (val _) c.word_of-2.ensures) (bucket_framed _ _ _ _ fr c.bucket_among.ensures)

@@ -1,8 +1,0 @@
-use native.Mathlib.Omega.{arith}
-use Rattle.values.proofs.with_pin.Goals as goal
-
-pub returns-then-on : goal.returns-then-on
-returns-then-on c = rw c.if-on.true
-
-pub returns : goal.returns
-returns c = rw c.if-on.false (omega arith)
