@@ -32,16 +32,24 @@ pub enum Work {
 pub fn decode(s: Settings, word: u32) -> Option<Work>
     ensures { meant result ≡ work s word }
 {
+    let kind = word / words::VALUES;
     let value = word % words::VALUES;
-    let stored = value < s.m;
-    match word / words::VALUES {
-        1 if stored => Some(Work::Read(value)),
-        2 if stored => Some(Work::Write(value)),
-        3 if stored => Some(Work::Purge(value)),
-        4 if value == 0 => Some(Work::Flush),
-        5 if value == 0 => Some(Work::Tick),
-        6 if stored => Some(Work::Pin(value)),
-        7 if stored => Some(Work::Unpin(value)),
+    // Apart from what it asks for: one match with guards is a jump for each word, which costs more where kinds are mixed.
+    let valid = match kind {
+        4..=5 => value == 0,
+        _ => value < s.m,
+    };
+    if !valid {
+        return None;
+    }
+    match kind {
+        1 => Some(Work::Read(value)),
+        2 => Some(Work::Write(value)),
+        3 => Some(Work::Purge(value)),
+        4 => Some(Work::Flush),
+        5 => Some(Work::Tick),
+        6 => Some(Work::Pin(value)),
+        7 => Some(Work::Unpin(value)),
         _ => None,
     }
 }
@@ -76,7 +84,8 @@ fn and_word(s: Settings, t: Tally, word: u32) -> Tally
     }
 }
 
-// The tally of a batch's words.
+// The tally of a batch's words. Called once a batch, and not inlined: the loop keeps its numbers in registers then.
+#[inline(never)]
 fn count(s: Settings, work: &[u32]) -> Tally
     requires { length work.now < 4294967295 }
     ensures { result ≡ tally s work.now }
@@ -98,8 +107,11 @@ pub fn memory_number(legal: Legal, bytes: usize, store: usize) -> Result<(), Ref
 {
     let b = legal.of.b as usize;
     let data_bytes = legal.of.n as usize * b;
+    if bytes < data_bytes {
+        return Err(Refusal::ShortDataOrStore);
+    }
     let store_bytes = legal.of.m as usize * b;
-    if bytes < data_bytes || store < store_bytes {
+    if store < store_bytes {
         return Err(Refusal::ShortDataOrStore);
     }
     if store > store_bytes {

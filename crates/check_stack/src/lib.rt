@@ -5,7 +5,7 @@ ghost use Rattle.layout.specs.ModifiedWord.{is_modified_word};
 ghost use Rattle.check_model.specs.Nines.{has_kind, links_ok, nine_test, nines_ok};
 ghost use Rattle.check_model.specs.Tests.{entry_word, field_test, kind_at, kind_test, kinds_ok, link_test, section_at, unused_ok, unused_test};
 
-use settings::Legal;
+use settings::Settings;
 
 // Words of the header, and of an entry: so many numbers, then links.
 pub const HEADER: usize = 24;
@@ -156,17 +156,16 @@ fn is_modified_word(w: u32) -> bool
 }
 
 // The numbers of the resident at position p are right.
-#[tactic(auto, using(settings::specs::NumbersLaws::legal_settings), unfolding(check_model::specs::Tests::field_test))]
-pub fn field_test(entries: &[u32], legal: Legal, e: u32, p: u32) -> bool
+#[tactic(auto, unfolding(check_model::specs::Tests::field_test))]
+pub fn field_test(entries: &[u32], s: Settings, e: u32, p: u32) -> bool
     requires { 9 * e + 8 < length entries.now }
-    ensures { result ≡ field_test (entry_word entries.now) legal.of.m legal.of.nnew (legal.of.n - legal.of.nold) e p }
+    ensures { result ≡ field_test (entry_word entries.now) s.m s.nnew (s.n - s.nold) e p }
 {
-    let s = legal.of;
     let count = field(entries, layout::COUNT, e);
     field(entries, layout::BLOCK, e) < s.m
         && (1..=MOST_COUNT).contains(&count)
         && is_modified_word(field(entries, layout::MODIFIED, e))
-        && field(entries, layout::SECTION, e) == section_at(s.nnew, s.n - s.nold, p)
+        && field(entries, layout::SECTION, e) == section_at(s.nnew, s.n.saturating_sub(s.nold), p)
 }
 
 #[tactic(auto, unfolding(check_model::specs::Tests::unused_test))]

@@ -14,15 +14,15 @@ ghost use Rattle.flushing.specs.Standing.{Standing, EntryReady};
 
 use stack::Marks;
 
-// Whether a resident with these marks is written out. By a flag, as the definition has it: flush and tick differ in this test alone.
+// Whether a resident with these marks is written out. By a flag, as the definition has it: flush and tick differ in this test alone. The
+// modified mark first, and by itself: few residents have it, and with the seen mark in one test a tick takes half as long again.
 fn goes_out(marks: Marks, tick: bool) -> bool
     ensures { result ≡ chosen tick marks }
 {
-    if tick {
-        marks.modified && marks.seen
-    } else {
-        marks.modified
+    if !marks.modified {
+        return false;
     }
+    !tick || marks.seen
 }
 
 // What a flush or a tick does at the resident of entry e: it is written out, or has seen the tick, or stays; whether it went out.

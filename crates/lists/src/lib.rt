@@ -10,7 +10,7 @@ pub const ENTRY_WORDS: u32 = 9;
 // A list's links of an entry: towards the head, and in the next word towards the tail.
 pub const UP: u32 = 0;
 
-const DOWN: u32 = 1;
+pub const DOWN: u32 = 1;
 
 // The links to head and tail of count chain i, from 1, stand 2 × i words past these.
 const CHAIN_HEADS: usize = 22;

@@ -1,7 +1,7 @@
 // Occupancy by count class: how many residents each class has, and how many of these are modified. Nothing is written.
 #![tactic(auto)]
 
-ghost use Rattle.std.specs.Prelude.{◌≡◌, List, [], ◌∷◌, ◌++◌, ℕ, T, IfOk};
+ghost use Rattle.std.specs.Prelude.{◌≡◌, List, [], ◌∷◌, ◌++◌, ℕ, T, IfOk, IfErr, replicate};
 ghost use Rattle.refusals.specs.Refusals.{outcome};
 ghost use Rattle.stack.specs.Recency.{Resident};
 ghost use Rattle.stack.specs.Occupancy.{class_of, table};
@@ -68,11 +68,12 @@ fn table_of(dir: &[u32]) -> Table
     figures
 }
 
-// The occupancy of a directory, for any slice of words.
+// The occupancy of a directory, for any slice of words. Where they are not sound, the table that a refusal stands for has sixteen 0s.
 #[tactic(auto, unfolding(promises::specs::Occupancy::occupancy_number, promises::specs::Occupancy::table_in))]
 pub fn occupancy(dir: &[u32]) -> Result<Table, Refusal>
     ensures number { outcome result ≡ occupancy_number dir.now }
-    ensures figures { IfOk result (λ t. Shows t (table_in dir.now)) }
+    ensures figures { IfOk result (λ t. (t.residents ≡ (table_in dir.now).residents) × (t.modified ≡ (table_in dir.now).modified)) }
+    ensures none { IfErr result (λ why. (table_in dir.now).residents ++ (table_in dir.now).modified ≡ replicate 16 0) }
 {
     if !soundness::sound(dir) {
         return Err(Refusal::Unsound);

@@ -59,7 +59,7 @@ fn entry_ok(
         e before p last.now }
 {
     check_stack::link_test(entries, legal.of.n, e, before)
-        && check_stack::field_test(entries, legal, e, p)
+        && check_stack::field_test(entries, legal.of, e, p)
         && check_lists::chain_test(d, entries, legal, e, last)
 }
 

@@ -7,7 +7,6 @@ use borrow.Author.Tests.{le-leb, lt-leb}
 use Rattle.refusals.proofs.Laws.{number_some}
 use Rattle.promises.specs.Occupancy.{table_in}
 use Rattle.promises.proofs.OccupancyLaws.{eight}
-use Rattle.occupancy.specs.Walk.{Shows}
 use Rattle.fbr.specs.Occupancy.{occupancy_figures}
 use Rattle.fbr.specs.FrontLaws.{two_fronts}
 use Rattle.fbr.proofs.Laws.{no_table}
@@ -24,10 +23,10 @@ returns-then-out-lt-OCCUPANCY_FIGURES c =
 pub returns-in-Ok : goal.returns-in-Ok
 returns-in-Ok c =
     let t = c.in-Ok.t in
-    let shows : Shows t (table_in c.args.dir.now) = c.in-Ok.ensures.figures in
-    let long : length t.residents ≡ 8 = ap length shows.residents_are ∙ (eight c.args.dir.now).0 in
+    let shows = c.in-Ok.ensures.figures in
+    let long : length t.residents ≡ 8 = ap length shows.0 ∙ (eight c.args.dir.now).0 in
     let room : 16 ≤ length c.args.out.now = c.if-out-lt-OCCUPANCY_FIGURES.false in
-    rw (le-leb (length (occupancy_figures c.args.dir.now)) (length c.args.out.now) (omega (arith, room, sixteen c.args.dir.now)), ← shows.residents_are, ← shows.modified_are)
+    rw (le-leb (length (occupancy_figures c.args.dir.now)) (length c.args.out.now) (omega (arith, room, sixteen c.args.dir.now)), ← shows.0, ← shows.1)
     (c.in-Ok.ensures.number, two_fronts t.residents t.modified c.args.out.now _ _ 8 long (omega arith) c.put.ensures c.put-in-Ok.ensures)
 
 pub returns-in-Err : goal.returns-in-Err
