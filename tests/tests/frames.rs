@@ -11,6 +11,10 @@ const MOST_STACK: u64 = 1_024;
 /// A comparison takes more: it runs a cache of its own, in the longest directory.
 const COMPARISON: &str = "fbr_compare";
 const LONGEST_DIRECTORY: u64 = 4 * 41_112;
+/// The section of a function's table of places to jump to, before its name; and the one of that kind that holds none.
+const TABLE: &str = ".rodata.";
+const CONSTANTS: &str = "cst16";
+const TABLE_WORD: u64 = 4;
 
 #[derive(Debug, Default)]
 struct Function {
@@ -23,8 +27,10 @@ struct Function {
     calls: Vec<String>,
     /// Call instructions that no relocation names.
     unnamed: usize,
-    /// Whether it reads a table of places to jump to: then a jump by a register stays inside it.
-    table: bool,
+    /// Jumps by a register, as to the arms of a match.
+    jumps: usize,
+    /// How often it reads its own table of places to jump to.
+    tables_read: usize,
 }
 
 impl Function {
@@ -34,14 +40,40 @@ impl Function {
     }
 }
 
-fn disassembly() -> String {
+fn objdump(arguments: &[&str]) -> String {
     let mut command = Command::new("objdump");
-    command.args(["-dr", "--no-show-raw-insn", env!("FBR_ARCHIVE")]);
+    command.args(arguments).arg(env!("FBR_ARCHIVE"));
     let output = command.output().unwrap_or_else(|e| panic!("{command:?}: {e}"));
     assert!(output.status.success(), "{command:?}: {}", String::from_utf8_lossy(&output.stderr));
     let text = String::from_utf8(output.stdout).unwrap();
     assert!(text.contains("elf64-x86-64"), "read for x86-64 only");
     text
+}
+
+/// The bytes of the tables of places to jump to, by the function that reads them.
+fn table_bytes() -> BTreeMap<String, u64> {
+    let row = |line: &str| {
+        let cells: Vec<&str> = line.split_whitespace().collect();
+        let name = cells.get(1)?.strip_prefix(TABLE)?;
+        Some((name.to_string(), hex(cells[2])))
+    };
+    objdump(&["-h"]).lines().filter_map(row).filter(|(name, _)| name != CONSTANTS).collect()
+}
+
+/// Of each table the functions into which its words lead: `.text.NAME+0x71f`.
+fn table_targets() -> BTreeMap<String, Vec<String>> {
+    let mut targets = BTreeMap::<String, Vec<String>>::new();
+    let mut table = None;
+    for line in objdump(&["-r"]).lines() {
+        if let Some(section) = line.strip_prefix("RELOCATION RECORDS FOR [") {
+            table = section.strip_suffix("]:").and_then(|section| section.strip_prefix(TABLE)).map(str::to_string);
+        } else if let (Some(name), true) = (&table, line.contains("R_X86_64_")) {
+            let place = line.split_whitespace().last().unwrap();
+            let (function, _) = place.strip_prefix(".text.").and_then(|place| place.split_once('+')).expect(line);
+            targets.entry(name.clone()).or_default().push(function.into());
+        }
+    }
+    targets
 }
 
 fn hex(digits: &str) -> u64 {
@@ -85,8 +117,7 @@ fn instruction(function: &mut Function, operation: &str, operands: &str) {
             function.frame += amount(operands).unsigned_abs()
         }
         "add" if operands.ends_with(",%rsp") => function.frame = function.frame.max(amount(operands) as u64),
-        // the arms of a match, by a table that the function has read
-        "jmp" if operands.starts_with("*%r") && function.table => (),
+        "jmp" if operands.starts_with("*%r") => function.jumps += 1,
         "call" | "jmp" if operands.starts_with('*') => panic!("{operation} {operands}: where to?"),
         "call" => function.unnamed += 1,
         "cmp" | "test" => (),
@@ -97,13 +128,14 @@ fn instruction(function: &mut Function, operation: &str, operands: &str) {
 fn functions() -> BTreeMap<String, Function> {
     let mut functions = BTreeMap::<String, Function>::new();
     let (mut name, mut last) = (String::new(), String::new());
-    for line in disassembly().lines() {
+    for line in objdump(&["-dr", "--no-show-raw-insn"]).lines() {
         if let Some(next) = heading(line) {
             name = next.into();
             functions.entry(name.clone()).or_default();
         } else if line.contains("R_X86_64_") {
             let function = functions.get_mut(&name).unwrap();
-            function.table |= line.contains(&format!(".rodata.{name}"));
+            let read = line.split_whitespace().last().unwrap().trim_end_matches("-0x4");
+            function.tables_read += usize::from(read.strip_prefix(TABLE) == Some(name.as_str()));
             function.calls.extend(called(line));
             function.unnamed -= usize::from(last == "call");
         } else if let Some((_, text)) = line.split_once(":\t") {
@@ -130,6 +162,21 @@ fn deepest<'a>(functions: &'a BTreeMap<String, Function>, name: &'a str, above: 
 fn every_call_is_known() {
     for (name, function) in functions() {
         assert_eq!(function.unnamed, 0, "{name} calls {:?}, and more", function.calls);
+    }
+}
+
+/// A jump by a register goes by a table of the function itself, each word of which leads into that function.
+#[test]
+fn every_jump_stays_inside() {
+    let functions = functions();
+    let (bytes, targets) = (table_bytes(), table_targets());
+    for (name, Function { jumps, tables_read, .. }) in &functions {
+        assert!(jumps <= tables_read, "{name}: {jumps} jumps, {tables_read} tables");
+    }
+    assert!(bytes.keys().eq(targets.keys()), "{bytes:?}, {targets:?}");
+    for (name, into) in &targets {
+        assert!(functions.contains_key(name) && into.iter().all(|function| function == name), "{name}: {into:?}");
+        assert_eq!(bytes[name], TABLE_WORD * into.len() as u64, "{name}");
     }
 }
 
