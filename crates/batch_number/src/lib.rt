@@ -34,7 +34,7 @@ pub fn decode(s: Settings, word: u32) -> Option<Work>
 {
     let kind = word / words::VALUES;
     let value = word % words::VALUES;
-    // Apart from what it asks for: one match with guards is a jump for each word, which costs more where kinds are mixed.
+    // Tested before the match below: with a guard in each arm that is a jump by a table for each word, slow where kinds are mixed.
     let valid = match kind {
         4..=5 => value == 0,
         _ => value < s.m,

@@ -15,7 +15,7 @@ ghost use Rattle.flushing.specs.Standing.{Standing, EntryReady};
 use stack::Marks;
 
 // Whether a resident with these marks is written out. By a flag, as the definition has it: flush and tick differ in this test alone. The
-// modified mark first, and by itself: few residents have it, and with the seen mark in one test a tick takes half as long again.
+// modified mark first, and by itself: with both marks in one expression a tick takes half as long again.
 fn goes_out(marks: Marks, tick: bool) -> bool
     ensures { result ≡ chosen tick marks }
 {
